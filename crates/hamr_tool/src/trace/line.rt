@@ -1,0 +1,15 @@
+//! A line of a trace.
+
+use crate::trace::Spot;
+use hw_text::Rows;
+use rts_rules::Event;
+
+/// An event, and where it stands.
+#[derive(Debug, Drop)]
+pub struct Line {
+    pub spot: Spot,
+    pub event: Event,
+}
+
+/// The lines of a trace, the oldest first.
+pub type Trace = Rows<Line>;
