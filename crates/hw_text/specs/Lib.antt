@@ -1,0 +1,4 @@
+pub mod Code
+pub mod Name
+pub mod Refusal
+pub mod formers
