@@ -1,0 +1,3 @@
+pub mod Arch
+pub mod LookUp
+pub mod Receivers

@@ -1,0 +1,13 @@
+//! What an architecture is made of.
+
+use crate::{LinkList, PdList, PortList};
+
+/// The tables of an architecture, before they are known to fit one another.
+#[derive(Debug, Drop)]
+pub struct ArchParts {
+    pub pds: PdList,
+    pub ports: PortList,
+    pub links: LinkList,
+    /// The frame period, in picoseconds.
+    pub frame: u64,
+}
