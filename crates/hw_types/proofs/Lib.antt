@@ -1,0 +1,4 @@
+pub mod Alignments
+pub mod Cells
+pub mod Shapes
+pub mod Types

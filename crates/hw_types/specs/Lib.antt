@@ -1,0 +1,5 @@
+pub mod Count
+pub mod Fault
+pub mod Layout
+pub mod Scalar
+pub mod Shape

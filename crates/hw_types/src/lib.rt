@@ -1,0 +1,25 @@
+//! Types, their layouts in memory, and values as bytes.
+#![tactic(auto)]
+
+mod count;
+mod fault;
+mod field_cell;
+mod layout;
+mod members;
+mod place;
+mod scalar;
+mod spot;
+mod ty;
+mod value;
+
+pub use fault::TypeFault;
+pub use field_cell::{FieldCell, FieldCellList};
+pub use layout::Layout;
+pub use place::layout_of;
+pub use scalar::Scalar;
+pub use spot::Spot;
+pub use ty::{Ty, TyList};
+pub use value::{Value, ValueList};
+
+#[cfg(test)]
+mod tests;
