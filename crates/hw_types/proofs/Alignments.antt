@@ -8,10 +8,12 @@ use Rattle.hw_types.specs.Layout.{aligned_up}
 
 pub by_align : (P : ℕ → Type 0) (a : ℕ) → IsAlign a → P 1 → P 2 → P 4 → P 8 → P a
 by_align P a is one two four eight = elim is [
-  inl e ↦ subst P (sym e) one
+  | inl e ↦ subst P (sym e) one
   | inr more ↦ elim more [
-    inl e ↦ subst P (sym e) two
-    | inr most ↦ elim most [ inl e ↦ subst P (sym e) four | inr e ↦ subst P (sym e) eight ] ] ]
+    | inl e ↦ subst P (sym e) two
+    | inr most ↦ elim most [ inl e ↦ subst P (sym e) four | inr e ↦ subst P (sym e) eight ]
+  ]
+]
 
 pub IsAlign-1 : IsAlign 1
 IsAlign-1 = inl refl
@@ -73,18 +75,17 @@ greater-mod a b is also =
     (divided_by 8 (λ h. omega arith) (λ h. omega arith) (λ h. omega arith) (λ h. refl))
     b also
 
-
 -- what lies at a multiple of w behind a multiple of a multiple of w
 pub shifted-mod : (k a w x : ℕ) → IsAlign a → IsAlign w → k % a ≡ 0 → a % w ≡ 0 → x % w ≡ 0 → (k + x) % w ≡ 0
 shifted-mod k a w x is also =
     by_align (λ w. k % a ≡ 0 → a % w ≡ 0 → x % w ≡ 0 → (k + x) % w ≡ 0) w also
     (λ p q r. omega arith)
     (by_align (λ a. k % a ≡ 0 → a % 2 ≡ 0 → x % 2 ≡ 0 → (k + x) % 2 ≡ 0) a is
-      (λ p q r. omega arith) (λ p q r. omega arith) (λ p q r. omega arith) (λ p q r. omega arith))
+    (λ p q r. omega arith) (λ p q r. omega arith) (λ p q r. omega arith) (λ p q r. omega arith))
     (by_align (λ a. k % a ≡ 0 → a % 4 ≡ 0 → x % 4 ≡ 0 → (k + x) % 4 ≡ 0) a is
-      (λ p q r. omega arith) (λ p q r. omega arith) (λ p q r. omega arith) (λ p q r. omega arith))
+    (λ p q r. omega arith) (λ p q r. omega arith) (λ p q r. omega arith) (λ p q r. omega arith))
     (by_align (λ a. k % a ≡ 0 → a % 8 ≡ 0 → x % 8 ≡ 0 → (k + x) % 8 ≡ 0) a is
-      (λ p q r. omega arith) (λ p q r. omega arith) (λ p q r. omega arith) (λ p q r. omega arith))
+    (λ p q r. omega arith) (λ p q r. omega arith) (λ p q r. omega arith) (λ p q r. omega arith))
 
 pub same-mod : (a : ℕ) → IsAlign a → a % a ≡ 0
 same-mod a is = by_align (λ a. a % a ≡ 0) a is refl refl refl refl

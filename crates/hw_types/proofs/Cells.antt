@@ -26,7 +26,7 @@ pub LieBetween-shifted : (k s e : ℕ) (cells : List FieldCell) → LieBetween s
 LieBetween-shifted k s e [] lie = omega (arith, lie)
 LieBetween-shifted k s e (c ∷ cs) lie =
     let more : LieBetween (k + (c.offset + width_of c.scalar)) (k + e) (shifted k cs) =
-      LieBetween-shifted k (c.offset + width_of c.scalar) e cs lie.1 in
+    LieBetween-shifted k (c.offset + width_of c.scalar) e cs lie.1 in
     let same : k + (c.offset + width_of c.scalar) ≡ k + c.offset + width_of c.scalar = omega arith in
     (omega (arith, lie.0), subst (λ n. LieBetween n (k + e) (shifted k cs)) same more)
 
@@ -44,8 +44,10 @@ AreNatural-append a (x ∷ xs) ys are also = (are.0, AreNatural-append a xs ys a
 
 pub AreNatural-shifted : (k a b : ℕ) (cells : List FieldCell) → IsAlign a → k % a ≡ 0 → b % a ≡ 0 → AreNatural a cells → AreNatural b (shifted k cells)
 AreNatural-shifted k a b [] is p q are = tt
-AreNatural-shifted k a b (c ∷ cs) is p q are =
-    (record {
-      place = shifted-mod k a (width_of c.scalar) c.offset is (IsAlign-width c.scalar) p are.0.whole are.0.place;
-      whole = mod-mod b a (width_of c.scalar) is (IsAlign-width c.scalar) q are.0.whole; },
-    AreNatural-shifted k a b cs is p q are.1)
+AreNatural-shifted k a b (c ∷ cs) is p q are = (
+  record {
+    place = shifted-mod k a (width_of c.scalar) c.offset is (IsAlign-width c.scalar) p are.0.whole are.0.place;
+    whole = mod-mod b a (width_of c.scalar) is (IsAlign-width c.scalar) q are.0.whole;
+  },
+  AreNatural-shifted k a b cs is p q are.1,
+)

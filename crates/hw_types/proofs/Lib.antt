@@ -1,4 +1,5 @@
 pub mod Alignments
 pub mod Cells
+pub mod PlaceSteps
 pub mod Shapes
 pub mod Types

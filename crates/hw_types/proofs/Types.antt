@@ -65,11 +65,14 @@ member_cells-length : (end : ℕ) (ts : List Ty) → AreSound ts → length (mem
 member_cells-length end [] are = refl
 member_cells-length end (t ∷ ts) are =
     let both : length (shifted (begin_of end (shape_of t)) (shape_of t).scalars ++ member_cells (begin_of end (shape_of t) + (shape_of t).size) (map shape_of ts))
-        ≡ scalar_count t + sum (map scalar_count ts) =
-      omega (arith,
-        length-append (shifted (begin_of end (shape_of t)) (shape_of t).scalars) (member_cells (begin_of end (shape_of t) + (shape_of t).size) (map shape_of ts)),
-        length-shifted (begin_of end (shape_of t)) (shape_of t).scalars, are.0.counted,
-        member_cells-length (begin_of end (shape_of t) + (shape_of t).size) ts are.1) in
+    ≡ scalar_count t + sum (map scalar_count ts) =
+    omega (
+      arith,
+      length-append (shifted (begin_of end (shape_of t)) (shape_of t).scalars) (member_cells (begin_of end (shape_of t) + (shape_of t).size) (map shape_of ts)),
+      length-shifted (begin_of end (shape_of t)) (shape_of t).scalars,
+      are.0.counted,
+      member_cells-length (begin_of end (shape_of t) + (shape_of t).size) ts are.1,
+    ) in
     both ∙ sym (sum-cons (scalar_count t) (map scalar_count ts))
 
 pub members_end-le : (end c : ℕ) (ts : List Ty) → AreSound ts → end ≤ 8 * c → members_end end (map shape_of ts) ≤ 8 * (c + sum (map scalar_count ts))
@@ -78,7 +81,7 @@ members_end-le end c (t ∷ ts) are h =
     let begin : begin_of end (shape_of t) ≤ 8 * c = aligned_up-le end (shape_of t).align c are.0.laid_out.power h in
     let next : begin_of end (shape_of t) + (shape_of t).size ≤ 8 * (c + scalar_count t) = omega (arith, begin, are.0.tight) in
     let more : members_end (begin_of end (shape_of t) + (shape_of t).size) (map shape_of ts) ≤ 8 * (c + (scalar_count t + sum (map scalar_count ts))) =
-      omega (arith, members_end-le (begin_of end (shape_of t) + (shape_of t).size) (c + scalar_count t) ts are.1 next) in
+    omega (arith, members_end-le (begin_of end (shape_of t) + (shape_of t).size) (c + scalar_count t) ts are.1 next) in
     subst (λ n. members_end (begin_of end (shape_of t) + (shape_of t).size) (map shape_of ts) ≤ 8 * (c + n))
     (sym (sum-cons (scalar_count t) (map scalar_count ts))) more
 
@@ -91,7 +94,8 @@ IsSound-by : (t : Ty) (s : Shape) (n : ℕ) → shape_of t ≡ s → scalar_coun
 IsSound-by t s n shape count laid_out counted tight = record {
   laid_out = rw shape laid_out;
   counted = rw (shape, count) counted;
-  tight = rw (shape, count) tight; }
+  tight = rw (shape, count) tight;
+}
 
 width-le : (s : Scalar) → width_of s ≤ 8
 width-le s = by_align (λ a. a ≤ 8) (width_of s) (IsAlign-width s) (omega arith) (omega arith) (omega arith) (omega arith)
@@ -107,7 +111,7 @@ IsSound-Fields ts are =
     IsSound-by (Fields ts) (struct_of (map shape_of ts)) (sum (map scalar_count ts)) (shape_of-Fields ts) (scalar_count-Fields ts)
     (IsLaidOut-struct (map shape_of ts) laid_out) (member_cells-length 0 ts are)
     (aligned_up-le (members_end 0 (map shape_of ts)) (greatest_align (map shape_of ts)) (sum (map scalar_count ts))
-      (greatest_align-power (map shape_of ts) laid_out) end)
+    (greatest_align-power (map shape_of ts) laid_out) end)
 
 IsSound-Times : (t : Ty) (n : ℕ) → IsSound t → IsSound (Times t n)
 IsSound-Times t n is =

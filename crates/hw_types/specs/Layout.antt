@@ -42,7 +42,8 @@ abbrev pub struct_of : List Shape → Shape
 struct_of members = record {
   scalars = member_cells 0 members;
   size = aligned_up (members_end 0 members) (greatest_align members);
-  align = greatest_align members; }
+  align = greatest_align members;
+}
 
 -- the scalars of so many elements, one behind the other
 abbrev pub element_cells : Shape → ℕ → List FieldCell
@@ -53,13 +54,15 @@ abbrev pub array_of : Shape → ℕ → Shape
 array_of element times = record {
   scalars = element_cells element times;
   size = times * element.size;
-  align = element.align; }
+  align = element.align;
+}
 
 abbrev pub scalar_shape : Scalar → Shape
 scalar_shape scalar = record {
   scalars = record { offset = 0; scalar = scalar } ∷ [];
   size = width_of scalar;
-  align = width_of scalar; }
+  align = width_of scalar;
+}
 
 -- what has no scalars takes no room
 abbrev pub empty_shape : ℕ → Shape

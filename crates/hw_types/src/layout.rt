@@ -100,23 +100,17 @@ impl Layout {
 
     /// The layout of an array of so many elements of this one.
     pub(crate) fn repeated(self, alloc: Global, times: u32) -> Result<Layout, NoMemory>
-        requires laid_out { IsLaidOut (array_of self times) }
-        requires no_room { self.scalars ≡ [] → self.size ≡ 0 }
-        requires small { times * self.size < 2 ^ 32 }
+        requires { times * self.size < 2 ^ 32 }
         ensures { IfOk result (λ layout. layout ≡ array_of self times) }
     {
-        if self.scalars.is_empty() {
+        if self.size() == 0 {
             return Ok(self);
         }
         let mut scalars = FieldCellList::new(alloc);
         for index in 0..times {
-            append_shifted(&mut scalars, index * self.size, self.scalars.rows())?;
+            append_shifted(&mut scalars, index * self.size(), self.scalars())?;
         }
-        Ok(Layout {
-            scalars,
-            size: times * self.size,
-            align: self.align,
-        })
+        Ok(Layout::new(scalars, times * self.size(), self.align()))
     }
 }
 

@@ -31,7 +31,7 @@ pub fn layout_of(alloc: Global, ty: &Ty) -> Result<Layout, TypeFault>
 
 /// The layout of a type that is not too wide.
 fn place(alloc: Global, ty: &Ty) -> Result<Layout, NoMemory>
-    requires { scalar_count ty.now ≤ 256 }
+    requires few { scalar_count ty.now ≤ 256 }
     ensures { IfOk result (λ layout. layout ≡ shape_of ty.now) }
 {
     match ty {

@@ -6,4 +6,5 @@ use Rattle.hw_types.proofs.place.+align_of.Given as goal
 abbrev pub invariant-loop-field : goal.invariant-loop-field
 invariant-loop-field l = record {
   power : IsAlign l.align;
-  value : max l.align (greatest_align (map shape_of (drop l.field-index l.field-items))) ≡ greatest_align (map shape_of l.field-items); }
+  value : max l.align (greatest_align (map shape_of (drop l.field-index l.field-items))) ≡ greatest_align (map shape_of l.field-items);
+}
