@@ -3,3 +3,4 @@ pub mod Fault
 pub mod Layout
 pub mod Scalar
 pub mod Shape
+pub mod Value

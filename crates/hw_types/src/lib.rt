@@ -1,6 +1,7 @@
 //! Types, their layouts in memory, and values as bytes.
 #![tactic(auto)]
 
+mod bytes;
 mod count;
 mod fault;
 mod field_cell;
@@ -12,6 +13,7 @@ mod spot;
 mod ty;
 mod value;
 
+pub use bytes::{bytes_of, read_back, value_of};
 pub use fault::TypeFault;
 pub use field_cell::{FieldCell, FieldCellList};
 pub use layout::Layout;
