@@ -6,7 +6,7 @@ use Rattle.hw_io.specs.declared.answers.ReadAnswer.{ReadAnswer}
 use Rattle.hw_io.specs.declared.answers.ReadAnswer.TheVariants as read
 use Rattle.hw_io.specs.declared.answers.WriteAnswer.{WriteAnswer}
 use Rattle.hw_io.specs.declared.answers.WriteAnswer.TheVariants as write
-use Rattle.hw_io.specs.declared.mem_store.MemFile.{MemFile}
+use Rattle.hw_io.specs.declared.mem_file.MemFile.{MemFile}
 
 pub record StoreState : Type 0 where
   -- the newest first, so that a later file hides an earlier one of its name

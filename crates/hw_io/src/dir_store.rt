@@ -1,6 +1,6 @@
 //! Files of the file system as a store.
 
-ghost use Rattle.std.specs.Prelude.{false, None};
+ghost use Rattle.std.specs.Prelude.{◌≡◌, List, ℕ, false, None};
 
 use crate::reading::{FileFault, read_whole};
 use crate::{ReadAnswer, Store, WriteAnswer};
@@ -24,7 +24,11 @@ pub struct DirStore<'a, R: Files> {
 
 impl<'a, R: Files> DirStore<'a, R> {
     /// The files of a runtime, with no fault counted.
-    pub fn new(files: &'a R) -> Self {
+    pub fn new(files: &'a R) -> Self
+        ensures read_faults { (name : List ℕ) → ⟦<DirStore<'a, R> as Store>⟧.read_faults result name ≡ 0 }
+        ensures write_faults { (name : List ℕ) → ⟦<DirStore<'a, R> as Store>⟧.write_faults result name ≡ 0 }
+        ensures absences { (name : List ℕ) → ⟦<DirStore<'a, R> as Store>⟧.absences result name ≡ 0 }
+    {
         DirStore {
             files,
             read_faults: 0,

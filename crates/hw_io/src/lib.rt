@@ -5,6 +5,7 @@
 mod answers;
 mod dir_store;
 mod faults;
+mod mem_file;
 mod mem_sink;
 mod mem_store;
 mod out_sink;

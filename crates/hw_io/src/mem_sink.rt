@@ -8,8 +8,9 @@ use hw_text::NoMemory;
 use std::alloc::Global;
 use std::marker::Model;
 
-/// Bytes in memory that was reserved for them. Writes are counted from 0; their number and the count
-/// of faults stop at their last value, and from then on each write has that number.
+/// Bytes in memory that was reserved for them. A write takes as much of its piece as finds room, and no
+/// memory. Writes are counted from 0; their number and the count of faults stop at their last value, and
+/// from then on each write has that number.
 #[derive(Debug, Drop)]
 pub struct MemSink {
     bytes: Vec<u8>,

@@ -1,31 +1,13 @@
 //! A store in memory, whose calls fail at chosen numbers.
 
-ghost use Rattle.std.specs.Prelude.{◌≡◌, ◌≤◌, true, Some, None, IfOk, OnOk, OnErr, IfSome, IfNone};
+ghost use Rattle.std.specs.Prelude.{◌≡◌, ◌≤◌, true, Some, None, OnOk, OnErr, IfSome, IfNone};
 ghost use Rattle.hw_io.specs.MemStore.{empty_store, held_in, with_file, ReadGives, after_read, WriteGives, after_write};
 
+use crate::mem_file::MemFile;
 use crate::{ReadAnswer, Store, WriteAnswer};
 use hw_text::{ByteList, NoMemory};
 use std::alloc::Global;
 use std::marker::Model;
-
-/// A name and its bytes.
-#[derive(Debug, Drop)]
-pub struct MemFile {
-    name: ByteList,
-    bytes: ByteList,
-}
-
-impl MemFile {
-    fn new(alloc: Global, name: &str, bytes: &[u8]) -> Result<Self, NoMemory>
-        ensures name { IfOk result (λ file. file.name ≡ name.now) }
-        ensures bytes { IfOk result (λ file. file.bytes ≡ bytes.now) }
-    {
-        Ok(MemFile {
-            name: ByteList::of(alloc, name.as_bytes())?,
-            bytes: ByteList::of(alloc, bytes)?,
-        })
-    }
-}
 
 /// Files in memory. A call fails at its number alone, counted from 0 for each kind of call. Numbers and
 /// counts stop at their last value: from then on each call has that number.

@@ -22,7 +22,7 @@ pub trait Store {
     /// How often writes of a name have failed.
     ghost write_faults: { Self → List ℕ → ℕ };
 
-    /// How often a name was read that nothing has.
+    /// How often a read of a name found nothing there.
     ghost absences: { Self → List ℕ → ℕ };
 
     /// The bytes of a name.
