@@ -24,8 +24,14 @@ pub record StoreState : Type 0 where
 -- nothing is held, and no call fails
 abbrev pub empty_store : StoreState
 empty_store = record {
-  files = []; reads = 0; writes = 0; failing_read = None; failing_write = None;
-  read_faults = 0; write_faults = 0; absences = 0;
+  files = [];
+  reads = 0;
+  writes = 0;
+  failing_read = None;
+  failing_write = None;
+  read_faults = 0;
+  write_faults = 0;
+  absences = 0;
 }
 
 -- the bytes of a name

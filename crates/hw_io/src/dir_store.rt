@@ -6,11 +6,10 @@ use crate::reading::{FileFault, read_whole};
 use crate::{ReadAnswer, Store, WriteAnswer};
 use hw_text::ByteList;
 use std::alloc::Global;
-use std::fs;
-use std::io;
 use std::io::{ErrorKind, Write};
 use std::path::Path;
 use std::rt::Files;
+use std::{fs, io};
 
 /// Files under the current folder. Names are opened as given, relative ones from that folder. What
 /// they hold is not told, and each kind of count is one number for all names.

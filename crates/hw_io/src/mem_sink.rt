@@ -27,7 +27,12 @@ impl Model for MemSink {
     ghost Value = { SinkState };
 
     ghost view = { λ s. record {
-        bytes = s.bytes.items; cap = s.cap; writes = s.writes; failing_write = s.failing_write; faults = s.faults } };
+      bytes = s.bytes.items;
+      cap = s.cap;
+      writes = s.writes;
+      failing_write = s.failing_write;
+      faults = s.faults;
+    } };
 
     ghost invariant = { λ s. (length s.bytes.items ≤ s.cap) × (s.cap ≤ vec_capacity s.bytes) };
 }

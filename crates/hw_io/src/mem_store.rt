@@ -29,9 +29,15 @@ impl Model for MemStore {
     ghost Value = { StoreState };
 
     ghost view = { λ s. record {
-        files = s.files.items; reads = s.reads; writes = s.writes;
-        failing_read = s.failing_read; failing_write = s.failing_write;
-        read_faults = s.read_faults; write_faults = s.write_faults; absences = s.absences } };
+      files = s.files.items;
+      reads = s.reads;
+      writes = s.writes;
+      failing_read = s.failing_read;
+      failing_write = s.failing_write;
+      read_faults = s.read_faults;
+      write_faults = s.write_faults;
+      absences = s.absences;
+    } };
 }
 
 impl MemStore {

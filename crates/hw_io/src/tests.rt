@@ -64,8 +64,18 @@ fn files_are_written_and_read_back(rt: HostRuntime) -> Result<(), Fail> {
     assert_eq!(rt; answer, WriteAnswer::Done);
     let bytes = bytes_of(&rt, &mut store, "hw_io_test/inner/file");
     assert!(rt; matches!(&bytes, Some(bytes) if bytes.rows() == b"text".as_slice()));
-    assert!(rt; matches!(store.read(rt.alloc(), "hw_io_test/none"), ReadAnswer::Absent));
-    assert!(rt; matches!(store.read(rt.alloc(), "hw_io_test/inner"), ReadAnswer::Failed));
+    assert!(rt;
+        matches!(
+            store.read(rt.alloc(), "hw_io_test/none"),
+            ReadAnswer::Absent
+        )
+    );
+    assert!(rt;
+        matches!(
+            store.read(rt.alloc(), "hw_io_test/inner"),
+            ReadAnswer::Failed
+        )
+    );
     let onto_a_folder = store.write(rt.alloc(), "hw_io_test/inner", b"text");
     assert_eq!(rt; onto_a_folder, WriteAnswer::Failed);
     fs::remove_dir_all(&rt, "hw_io_test")?;
