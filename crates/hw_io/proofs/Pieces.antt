@@ -1,5 +1,5 @@
 -- Two pieces that follow one another are one.
-use Rattle.std.proofs.Common.{◌≡◌, ℕ, ◌+◌, List, ◌++◌, take, drop, Option, Some, None, sym, ◌∙◌, ap, subst, append_assoc}
+use Rattle.std.proofs.Common.{◌≡◌, ℕ, ◌+◌, List, ◌++◌, take, drop, Option, Some, None, subst, append_assoc}
 use Rattle.std.proofs.Math.Seq.{take-add}
 use Rattle.hw_io.specs.Written.{Appends}
 
