@@ -1,3 +1,4 @@
 pub mod Arch
 pub mod LookUp
 pub mod Receivers
+pub mod Value

@@ -81,7 +81,8 @@ impl Arch {
 
     /// The domain of this name.
     pub fn pd_named(&self, name: &Name) -> Option<PdId>
-        ensures { result ≡ pd_named self.now.pds name.now }
+        ensures named { result ≡ pd_named self.now.pds name.now }
+        ensures well_formed { IsWellFormed self.now }
     {
         pd_spelled(self.pds.rows(), name.rows())
     }
@@ -89,7 +90,8 @@ impl Arch {
     /// The ports that receive what leaves this one, in the order of the links.
     pub fn receivers(&self, port: PortId) -> Receivers<'_>
         requires { port.0 < length self.now.ports }
-        ensures { receivers_left result ≡ receivers_of self.now.links port }
+        ensures receivers { receivers_left result ≡ receivers_of self.now.links port }
+        ensures well_formed { IsWellFormed self.now }
     {
         Receivers::new(self.links.rows(), port)
     }

@@ -22,3 +22,6 @@ pub use port::{Port, PortList};
 pub use receivers::Receivers;
 pub use role::Role;
 pub use value::{Value, ValueList};
+
+#[cfg(test)]
+mod tests;

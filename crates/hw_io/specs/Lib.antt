@@ -1,0 +1,5 @@
+pub mod Answer
+pub mod Count
+pub mod MemSink
+pub mod MemStore
+pub mod Written

@@ -1,0 +1,12 @@
+use Rattle.std.proofs.Common.{◌≡◌, ◌++◌, length, replicate}
+use Rattle.arch_model.specs.LookUp.{receivers_of}
+use Rattle.arch_model.specs.Receivers.{receivers_left}
+use Rattle.rts_rules.specs.Step.{released}
+use Rattle.rts_rules.proofs.state.ServiceState.release.Given as goal
+
+abbrev pub invariant-loop-receiver : goal.invariant-loop-receiver
+invariant-loop-receiver l = record {
+  left : receivers_of l.arch.links l.fn.port ≡ l.yielded ++ receivers_left l.receiver-iterator;
+  copies : l.copies ≡ replicate (length (receivers_left l.receiver-iterator)) l.value;
+  queues : l.self-inside.queues.items ≡ released l.yielded l.value l.fn.self.queues;
+}

@@ -1,0 +1,5 @@
+pub mod Fault
+pub mod Rule
+pub mod Run
+pub mod Services
+pub mod Step

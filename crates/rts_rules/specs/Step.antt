@@ -1,0 +1,117 @@
+-- The service step: which event is allowed, and the state that it leaves
+-- (this project's own, after the run-time services of AADL). So far devices alone have rules.
+use Rattle.std.specs.Prelude.{◌≡◌, ℕ, ℤ, true, false, Bool, ◌+◌, ◌==◌, ◌<◌, List, [], ◌∷◌, length, IsSomeAnd, slice_get, if◌then◌else◌}
+use Rattle.std.specs.List.{list_any}
+use Rattle.arch_model.specs.declared.parts.ArchParts.{ArchParts}
+use Rattle.arch_model.specs.declared.id.PdId.{PdId}
+use Rattle.arch_model.specs.declared.id.PortId.{PortId}
+use Rattle.arch_model.specs.declared.role.Role.TheVariants.{Device}
+use Rattle.arch_model.specs.LookUp.{receivers_of}
+use Rattle.arch_model.specs.Value.{IsInteger32}
+use Rattle.rts_rules.specs.declared.event.Event.{Event}
+use Rattle.rts_rules.specs.declared.event.What.{What}
+use Rattle.rts_rules.specs.declared.event.What.TheVariants as what
+use Rattle.rts_rules.specs.Services.{Queue, Services, appended, emptied}
+
+-- the domain is there and is a device
+abbrev pub IsDevice : ArchParts → PdId → Type 0
+IsDevice arch who = IsSomeAnd (slice_get arch.pds who.0) (λ pd. pd.role ≡ Device)
+
+-- the port is there, belongs to the domain, and leads out or in
+abbrev pub IsPortOf : ArchParts → PdId → Bool → PortId → Type 0
+IsPortOf arch who outward port =
+    IsSomeAnd (slice_get arch.ports port.0) (λ p. (p.owner.0 ≡ who.0) × (p.outward ≡ outward))
+
+-- a link ends at the port
+abbrev pub is_connected : ArchParts → PortId → Bool
+is_connected arch port = list_any (λ link. link.to.0 == port.0) arch.links
+
+-- just these items wait at the port
+abbrev pub Waits : Services → PortId → List (List ℤ) → Type 0
+Waits state port items = IsSomeAnd (slice_get state.queues port.0) (λ queue. items ≡ queue.items)
+
+-- a device may release any value of the type through any of its out ports
+pub record IsReleaseOfDevice (arch : ArchParts) (who : PdId) (port : PortId) (value : List ℤ) : Type 0 where
+  pub device : IsDevice arch who
+  pub own : IsPortOf arch who true port
+  pub typed : IsInteger32 value
+
+-- a device receives all that waits at a connected in port
+pub record IsReceiveOfDevice (arch : ArchParts) (state : Services) (who : PdId) (port : PortId) (items : List (List ℤ)) : Type 0 where
+  pub device : IsDevice arch who
+  pub own : IsPortOf arch who false port
+  pub connected : is_connected arch port ≡ true
+  pub all : Waits state port items
+
+-- a rule allows the domain to do this
+abbrev pub Allows : ArchParts → Services → PdId → What → Type 0
+Allows arch state who what.Tick = ⊥
+Allows arch state who what.Init = ⊥
+Allows arch state who what.Begin = ⊥
+Allows arch state who what.Void = ⊥
+Allows arch state who what.Compute = ⊥
+Allows arch state who what.Send = ⊥
+Allows arch state who what.End = ⊥
+Allows arch state who (what.Receive port items) = IsReceiveOfDevice arch state who port items
+Allows arch state who (what.Put port value) = ⊥
+Allows arch state who (what.Release port value) = IsReleaseOfDevice arch who port value
+Allows arch state who (what.Verdict clause holds) = ⊥
+
+abbrev pub IsAllowed : ArchParts → Services → Event → Type 0
+IsAllowed arch state event = Allows arch state event.who event.what
+
+-- the port is one of these
+abbrev pub is_among : List PortId → ℕ → Bool
+is_among ports place = list_any (λ port. port.0 == place) ports
+
+-- the queues from this place on, changed where the place passes the test
+abbrev pub changed_from : ℕ → (ℕ → Bool) → (Queue → Queue) → List Queue → List Queue
+changed_from place passes change [] = []
+changed_from place passes change (queue ∷ queues) =
+    (if passes place then change queue else queue) ∷ changed_from (place + 1) passes change queues
+
+-- the value is appended at each of these ports
+unfoldable pub released : List PortId → List ℤ → List Queue → List Queue
+released ports value queues = changed_from 0 (is_among ports) (λ queue. appended queue value) queues
+
+-- the port's queue is emptied
+unfoldable pub received : PortId → List Queue → List Queue
+received port queues = changed_from 0 (λ place. port.0 == place) emptied queues
+
+abbrev pub with_queues : List Queue → Services
+with_queues queues = record { queues = queues }
+
+-- what the act of a domain leaves
+abbrev pub left_by : ArchParts → Services → What → Services
+left_by arch state what.Tick = state
+left_by arch state what.Init = state
+left_by arch state what.Begin = state
+left_by arch state what.Void = state
+left_by arch state what.Compute = state
+left_by arch state what.Send = state
+left_by arch state what.End = state
+left_by arch state (what.Receive port items) = with_queues (received port state.queues)
+left_by arch state (what.Put port value) = state
+left_by arch state (what.Release port value) = with_queues (released (receivers_of arch.links port) value state.queues)
+left_by arch state (what.Verdict clause holds) = state
+
+abbrev pub after : ArchParts → Services → Event → Services
+after arch state event = left_by arch state event.what
+
+-- the domain and the ports that an event names are there
+abbrev pub NamesPorts : ArchParts → What → Type 0
+NamesPorts arch what.Tick = Unit {0}
+NamesPorts arch what.Init = Unit {0}
+NamesPorts arch what.Begin = Unit {0}
+NamesPorts arch what.Void = Unit {0}
+NamesPorts arch what.Compute = Unit {0}
+NamesPorts arch what.Send = Unit {0}
+NamesPorts arch what.End = Unit {0}
+NamesPorts arch (what.Receive port items) = port.0 < length arch.ports
+NamesPorts arch (what.Put port value) = port.0 < length arch.ports
+NamesPorts arch (what.Release port value) = port.0 < length arch.ports
+NamesPorts arch (what.Verdict clause holds) = Unit {0}
+
+pub record IsEventOf (arch : ArchParts) (event : Event) : Type 0 where
+  pub domain : event.who.0 < length arch.pds
+  pub ports : NamesPorts arch event.what
