@@ -42,6 +42,9 @@ IsAlign-width (scalar.Choice n) = IsAlign-4
 pub aligned_up-ge : (n a : ℕ) → IsAlign a → n ≤ aligned_up n a
 aligned_up-ge n a is = by_align (λ a. n ≤ aligned_up n a) a is (omega arith) (omega arith) (omega arith) (omega arith)
 
+pub aligned_up-lt : (n a : ℕ) → IsAlign a → aligned_up n a < n + a
+aligned_up-lt n a is = by_align (λ a. aligned_up n a < n + a) a is (omega arith) (omega arith) (omega arith) (omega arith)
+
 pub aligned_up-mod : (n a : ℕ) → IsAlign a → aligned_up n a % a ≡ 0
 aligned_up-mod n a is = by_align (λ a. aligned_up n a % a ≡ 0) a is (omega arith) (omega arith) (omega arith) (omega arith)
 

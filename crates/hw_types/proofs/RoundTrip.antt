@@ -74,6 +74,9 @@ length-bytes_from size end (c ∷ cs) (v ∷ vs) lie are =
       length-bytes_from size (c.offset + width_of c.scalar) cs vs lie.1 are.1,
     )
 
+pub length-bytes_for : (layout : Shape) (vs : List ℤ) → IsLaidOut layout → IsValueOf layout vs → length (bytes_for layout vs) ≡ layout.size
+length-bytes_for layout vs is are = omega (arith, length-bytes_from layout.size 0 layout.scalars vs is.in_order are)
+
 pub value_in-bytes_for : (layout : Shape) (vs : List ℤ) → IsLaidOut layout → IsValueOf layout vs → value_in layout (bytes_for layout vs) ≡ Some vs
 value_in-bytes_for layout vs is are =
     let fits : length (bytes_for layout vs) ≡ layout.size = omega (arith, length-bytes_from layout.size 0 layout.scalars vs is.in_order are) in

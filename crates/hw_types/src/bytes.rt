@@ -1,8 +1,7 @@
 //! Values as bytes.
 
-ghost use Rattle.std.specs.Prelude.{◌≡◌, ◌≤◌, ◌<◌, ◌+◌, ◌-◌, ◌++◌, length, List, ℤ, IfOk, OnOk, IfSome, Some};
+ghost use Rattle.std.specs.Prelude.{◌≡◌, ◌≤◌, ◌<◌, ◌+◌, ◌-◌, ◌++◌, length, IfOk, OnOk, IfSome};
 ghost use Rattle.hw_types.specs.Scalar.{width_of};
-ghost use Rattle.hw_types.specs.Shape.{Shape, IsLaidOut};
 ghost use Rattle.hw_types.specs.Value.{IsScalarValue, IsValueOf, code_of, number_in, held_in, value_in, zeros, bytes_of_number, bytes_for};
 
 use crate::{FieldCell, Layout, Value};
@@ -40,12 +39,6 @@ pub fn bytes_of(alloc: Global, layout: &Layout, value: &Value) -> Result<ByteLis
     pad(&mut bytes, layout.size())?;
     Ok(bytes)
 }
-
-/// Bytes that were made from a value are read as that value.
-pub fn read_back()
-    ensures { (layout : Shape) (value : List ℤ) → IsLaidOut layout → IsValueOf layout value →
-        value_in layout (bytes_for layout value) ≡ Some value }
-{}
 
 /// What the bytes of a scalar mean.
 fn scalar_in(cell: FieldCell, bytes: &[u8]) -> Option<i128>

@@ -1,7 +1,8 @@
 //! Where a scalar lies.
 
 use crate::Scalar;
-use hw_text::Rows;
+use hw_text::{Duplicate, NoMemory, Rows};
+use std::alloc::Global;
 
 /// A scalar of a value, and where it begins in the value's bytes.
 #[derive(Clone, Copy, Debug, PartialEq, Eq)]
@@ -12,3 +13,9 @@ pub struct FieldCell {
 
 /// Scalars in the order of their offsets.
 pub type FieldCellList = Rows<FieldCell>;
+
+impl Duplicate for FieldCell {
+    fn duplicate(&self, _alloc: Global) -> Result<Self, NoMemory> {
+        Ok(*self)
+    }
+}

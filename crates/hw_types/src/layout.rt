@@ -5,7 +5,7 @@ ghost use Rattle.hw_types.specs.Layout.{shifted, scalar_shape, empty_shape, arra
 ghost use Rattle.hw_types.specs.Shape.{IsLaidOut, IsAlign};
 
 use crate::{FieldCell, FieldCellList, Scalar};
-use hw_text::NoMemory;
+use hw_text::{Duplicate, NoMemory};
 use std::alloc::Global;
 use std::marker::Model;
 
@@ -57,7 +57,7 @@ impl Layout {
         ensures { IfOk result (λ copy. copy ≡ self.now) }
     {
         Ok(Layout {
-            scalars: copied(&self.scalars)?,
+            scalars: self.scalars.duplicate(self.scalars.allocator())?,
             size: self.size,
             align: self.align,
         })
@@ -130,14 +130,4 @@ pub(crate) fn append_shifted(
         })?;
     }
     Ok(())
-}
-
-fn copied(cells: &FieldCellList) -> Result<FieldCellList, NoMemory>
-    ensures { IfOk result (λ copy. copy ≡ cells.now) }
-{
-    let mut copy = FieldCellList::new(cells.allocator());
-    for cell in cells.rows() {
-        copy.push(*cell)?;
-    }
-    Ok(copy)
 }

@@ -4,7 +4,6 @@ ghost use Rattle.std.specs.Prelude.{◌≡◌, IfOk};
 
 use crate::Scalar;
 use hw_text::{Boxed, NoMemory, Rows};
-use std::alloc::Global;
 
 /// A type of a model.
 #[derive(Debug, Drop)]
@@ -23,22 +22,22 @@ pub type TyList = Rows<Ty>;
 
 impl Ty {
     /// An equal type.
-    pub fn copy(&self, alloc: Global) -> Result<Ty, NoMemory>
+    pub fn copy(&self) -> Result<Ty, NoMemory>
         ensures { IfOk result (λ copy. copy ≡ self.now) }
     {
         match self {
             Ty::One(scalar) => Ok(Ty::One(*scalar)),
             Ty::Fields(fields) => {
-                let mut copies = TyList::new(alloc);
+                let mut copies = TyList::new(fields.allocator());
                 for field in fields.rows() {
-                    copies.push(field.copy(alloc)?)?;
+                    copies.push(field.copy()?)?;
                 }
                 Ok(Ty::Fields(copies))
             }
-            Ty::Times(element, count) => Ok(Ty::Times(
-                Boxed::new(alloc, element.get().copy(alloc)?)?,
-                *count,
-            )),
+            Ty::Times(element, times) => {
+                let copy = element.get().copy()?;
+                Ok(Ty::Times(Boxed::new(element.allocator(), copy)?, *times))
+            }
             Ty::Nothing => Ok(Ty::Nothing),
         }
     }
