@@ -1,8 +1,8 @@
 -- Lists of scalars that lie in order.
-use Rattle.std.proofs.Common.{◌≡◌, ℕ, ◌+◌, ◌%◌, ◌≤◌, ◌<◌, zero, suc, List, [], ◌∷◌, ◌++◌, length, get_or, refl, sym, subst, arith}
+use Rattle.std.proofs.Common.{◌≡◌, ℕ, ◌+◌, ◌%◌, ◌≤◌, ◌<◌, zero, suc, List, [], ◌∷◌, ◌++◌, length, get_or, subst, arith}
 use Rattle.hw_types.specs.declared.field_cell.FieldCell.{FieldCell}
 use Rattle.hw_types.specs.Scalar.{width_of}
-use Rattle.hw_types.specs.Shape.{IsAlign, LieBetween, IsNatural, AreNatural}
+use Rattle.hw_types.specs.Shape.{IsAlign, LieBetween, AreNatural}
 use Rattle.hw_types.specs.Layout.{shifted}
 use Rattle.hw_types.proofs.Alignments.{IsAlign-width, shifted-mod, mod-mod}
 

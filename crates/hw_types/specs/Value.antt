@@ -1,5 +1,5 @@
 -- The meaning of bytes: little endian, two's complement (ISO/IEC 9899:2011, 6.2.6, as on the usual 64-bit targets).
-use Rattle.std.specs.Prelude.{◌≡◌, ℕ, ℤ, pos, negsuc, neg_ℤ, zero, suc, ◌+◌, ◌-◌, ◌*◌, ◌/◌, ◌%◌, ◌^◌, ◌-ℤ◌, ◌<ℤ◌, ◌≤ℤ◌, ◌==◌, nat_lt, min, if◌then◌else◌, List, [], ◌∷◌, ◌++◌, length, take, drop, Option, Some, None}
+use Rattle.std.specs.Prelude.{ℕ, ℤ, pos, negsuc, neg_ℤ, zero, suc, ◌+◌, ◌-◌, ◌*◌, ◌/◌, ◌%◌, ◌^◌, ◌-ℤ◌, ◌<ℤ◌, ◌≤ℤ◌, ◌==◌, nat_lt, min, if◌then◌else◌, List, [], ◌∷◌, ◌++◌, length, take, drop, Option, Some, None}
 use Rattle.std.specs.Option.{option_map, option_and_then}
 use Rattle.hw_types.specs.declared.field_cell.FieldCell.{FieldCell}
 use Rattle.hw_types.specs.declared.scalar.Scalar.{Scalar}

@@ -1,8 +1,9 @@
 //! Layouts: where the scalars of a type lie.
 
-ghost use Rattle.std.specs.Prelude.{◌≡◌, ◌≤◌, ◌<◌, ◌*◌, ◌+◌, ◌^◌, ◌++◌, [], length, IfOk, OnOk, OnErr, All};
+ghost use Rattle.std.specs.Prelude.{◌≡◌, ◌↔◌, IsTrue, ◌≤◌, ◌<◌, ◌*◌, ◌+◌, ◌^◌, ◌++◌, [], length, IfOk, OnOk, OnErr, All};
 ghost use Rattle.hw_types.specs.Layout.{shifted, scalar_shape, empty_shape, array_of, begin_of, aligned_up};
 ghost use Rattle.hw_types.specs.Shape.{IsLaidOut, IsAlign};
+ghost use Rattle.hw_types.specs.Value.{IsValueOf};
 
 use crate::{FieldCell, FieldCellList, Scalar};
 use hw_text::{Duplicate, NoMemory};
@@ -50,6 +51,22 @@ impl Layout {
         ensures laid_out { IsLaidOut self.now }
     {
         self.align
+    }
+
+    /// Whether the numbers are a value.
+    pub fn holds(&self, numbers: &[i128]) -> bool
+        ensures { IsTrue result ↔ IsValueOf self.now numbers.now }
+    {
+        let cells = self.scalars();
+        if cells.len() != numbers.len() {
+            return false;
+        }
+        for (place, cell) in cells.iter().enumerate() {
+            if !cell.scalar.holds(numbers[place]) {
+                return false;
+            }
+        }
+        true
     }
 
     /// An equal layout.

@@ -1,8 +1,8 @@
 //! Scalars, the parts of which every value consists.
 
-ghost use Rattle.std.specs.Prelude.{◌≡◌, ◌^◌, nat_lt, if◌then◌else◌, pos};
+ghost use Rattle.std.specs.Prelude.{◌≡◌, ◌↔◌, ◌^◌, IsTrue, nat_lt, if◌then◌else◌, pos};
 ghost use Rattle.hw_types.specs.Scalar.{width_of};
-ghost use Rattle.hw_types.specs.Value.{IsScalarValue, meaning_of, code_of, signed_of};
+ghost use Rattle.hw_types.specs.Value.{IsScalarValue, least_of, limit_of, meaning_of, code_of, signed_of};
 
 /// A type without parts.
 #[derive(Clone, Copy, Debug, PartialEq, Eq)]
@@ -33,6 +33,42 @@ impl Scalar {
             Scalar::U16 | Scalar::I16 => 2,
             Scalar::U32 | Scalar::I32 | Scalar::Choice(_) => 4,
             Scalar::U64 | Scalar::I64 => 8,
+        }
+    }
+
+    /// Whether a number is one of its values.
+    pub fn holds(self, value: i128) -> bool
+        ensures { IsTrue result ↔ IsScalarValue self value }
+    {
+        self.least() <= value && value < self.limit()
+    }
+
+    fn least(self) -> i128
+        ensures { result ≡ least_of self }
+    {
+        match self {
+            Scalar::I8 => -(1 << 7),
+            Scalar::I16 => -(1 << 15),
+            Scalar::I32 => -(1 << 31),
+            Scalar::I64 => -(1 << 63),
+            _ => 0,
+        }
+    }
+
+    fn limit(self) -> i128
+        ensures { result ≡ limit_of self }
+    {
+        match self {
+            Scalar::U8 => 1 << 8,
+            Scalar::U16 => 1 << 16,
+            Scalar::U32 => 1 << 32,
+            Scalar::U64 => 1 << 64,
+            Scalar::I8 => 1 << 7,
+            Scalar::I16 => 1 << 15,
+            Scalar::I32 => 1 << 31,
+            Scalar::I64 => 1 << 63,
+            Scalar::Flag => 2,
+            Scalar::Choice(count) => i128::from(count),
         }
     }
 

@@ -112,6 +112,8 @@ fn bytes(rt: HostRuntime) -> Result<(), NoMemory> {
         return Err(NoMemory);
     };
     assert_eq!(rt; value.rows(), [7i128, -3, 513].as_slice());
+    assert!(rt; layout.holds(&[255, -2_147_483_648, 65_535]));
+    assert!(rt; !layout.holds(&[256, -3, 513]) && !layout.holds(&[7, -3]));
     let bytes = bytes_of(rt.alloc(), &layout, &value)?;
     assert_eq!(rt;
         bytes.rows(),

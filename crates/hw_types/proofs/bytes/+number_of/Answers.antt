@@ -1,4 +1,4 @@
-use Rattle.std.proofs.Common.{◌≡◌, ◌+◌, ◌*◌, ◌<◌, arith, rules}
+use Rattle.std.proofs.Common.{◌+◌, ◌*◌, ◌<◌, arith, rules}
 use Rattle.hw_types.proofs.Numbers.{number-fits}
 use Rattle.hw_types.specs.Value.{number_in}
 use Rattle.hw_types.proofs.bytes.+number_of.Goals as goal

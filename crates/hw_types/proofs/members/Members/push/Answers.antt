@@ -1,4 +1,4 @@
-use Rattle.std.proofs.Common.{◌≡◌, ◌≤◌, length, arith}
+use Rattle.std.proofs.Common.{arith}
 use Rattle.hw_types.proofs.Shapes.{offset-le}
 use Rattle.hw_types.proofs.members.Members.push.Goals as goal
 
