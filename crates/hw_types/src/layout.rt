@@ -1,7 +1,7 @@
 //! Layouts: where the scalars of a type lie.
 
-ghost use Rattle.std.specs.Prelude.{◌≡◌, ◌↔◌, IsTrue, ◌≤◌, ◌<◌, ◌*◌, ◌+◌, ◌^◌, ◌++◌, [], length, IfOk, OnOk, OnErr, All};
-ghost use Rattle.hw_types.specs.Layout.{shifted, scalar_shape, empty_shape, array_of, begin_of, aligned_up};
+ghost use Rattle.std.specs.Prelude.{◌≡◌, ◌↔◌, ◌<◌, ◌+◌, ◌*◌, ◌^◌, ◌++◌, IsTrue, IfOk, OnOk, All};
+ghost use Rattle.hw_types.specs.Layout.{shifted, scalar_shape, empty_shape, array_of};
 ghost use Rattle.hw_types.specs.Shape.{IsLaidOut, IsAlign};
 ghost use Rattle.hw_types.specs.Value.{IsValueOf};
 

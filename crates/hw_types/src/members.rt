@@ -1,6 +1,6 @@
 //! Structs in the making.
 
-ghost use Rattle.std.specs.Prelude.{◌≡◌, ◌≤◌, ◌<◌, ◌+◌, ◌++◌, ◌%◌, [], max, OnOk, OnErr};
+ghost use Rattle.std.specs.Prelude.{◌≡◌, ◌≤◌, ◌<◌, ◌+◌, ◌++◌, [], max, OnOk};
 ghost use Rattle.hw_types.specs.Layout.{aligned_up, shifted, begin_of};
 ghost use Rattle.hw_types.specs.Shape.{IsAlign, IsLaidOut};
 
