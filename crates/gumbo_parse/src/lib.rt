@@ -1,0 +1,25 @@
+//! The text of contracts: its tokens, its grammar, and the trees that it stands for.
+#![tactic(auto)]
+
+mod blank;
+mod bytes;
+mod description;
+mod expression;
+mod identifier;
+mod integer;
+mod lexer;
+mod mark;
+mod operator;
+mod place;
+mod token;
+mod word;
+
+pub use description::Description;
+pub use expression::{Expression, Selector};
+pub use identifier::Identifier;
+pub use integer::Integer;
+pub use lexer::{Lexed, read_tokens};
+pub use mark::Mark;
+pub use operator::{BinaryOperator, Quantifier, UnaryOperator};
+pub use token::{Placed, Token};
+pub use word::Word;

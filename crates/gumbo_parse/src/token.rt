@@ -1,0 +1,28 @@
+//! The tokens of contracts.
+
+use crate::description::Description;
+use crate::identifier::Identifier;
+use crate::integer::Integer;
+use crate::mark::Mark;
+use crate::word::Word;
+use hw_text::Place;
+
+/// A token. Case does not matter in names and words.
+#[derive(Debug, Drop)]
+pub enum Token {
+    Name(Identifier),
+    Word(Word),
+    /// A word that is reserved in models and has no use in contracts.
+    Reserved,
+    Number(Integer),
+    /// What stands between quotes.
+    Text(Description),
+    Mark(Mark),
+}
+
+/// A token, and where it begins.
+#[derive(Debug, Drop)]
+pub struct Placed {
+    pub token: Token,
+    pub place: Place,
+}
