@@ -11,15 +11,16 @@ mod lexer;
 mod mark;
 mod operator;
 mod place;
+mod print;
 mod token;
 mod word;
 
 pub use description::Description;
-pub use expression::{Expression, Selector};
+pub use expression::{Bound, Expression, Named, Selector};
 pub use identifier::Identifier;
 pub use integer::Integer;
 pub use lexer::{Lexed, read_tokens};
 pub use mark::Mark;
-pub use operator::{BinaryOperator, Quantifier, UnaryOperator};
+pub use operator::{BinaryOperator, PortTest, Quantifier, UnaryOperator};
 pub use token::{Placed, Token};
 pub use word::Word;
