@@ -1,3 +1,5 @@
+pub mod Annex
+pub mod Classes
 pub mod Grammar
 pub mod Marks
 pub mod Operators

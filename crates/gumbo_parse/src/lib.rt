@@ -1,8 +1,11 @@
 //! The text of contracts: its tokens, its grammar, and the trees that it stands for.
 #![tactic(auto)]
 
+mod annex;
 mod blank;
 mod bytes;
+mod class;
+mod contract;
 mod description;
 mod expression;
 mod identifier;
@@ -15,6 +18,9 @@ mod print;
 mod token;
 mod word;
 
+pub use annex::print_annex;
+pub use class::{BaseType, Class, ModelType, Variable};
+pub use contract::{Clause, ClauseKind, Compute, Contract, Handler};
 pub use description::Description;
 pub use expression::{Bound, Expression, Named, Selector};
 pub use identifier::Identifier;
