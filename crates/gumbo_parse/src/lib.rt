@@ -30,3 +30,6 @@ pub use mark::Mark;
 pub use operator::{BinaryOperator, PortTest, Quantifier, UnaryOperator};
 pub use token::{Placed, Token};
 pub use word::Word;
+
+#[cfg(test)]
+mod tests;
