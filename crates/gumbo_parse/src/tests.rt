@@ -1,5 +1,5 @@
 use super::*;
-use hw_text::{Boxed, NoMemory, Place, Rows};
+use hw_text::{Boxed, Place, Rows, TextBuf};
 use std::alloc::Global;
 use std::test::Fail;
 
@@ -67,7 +67,8 @@ fn binary(
     right: Expression,
 ) -> Result<Expression, Fail> {
     let left = Boxed::new(alloc, left)?;
-    Ok(Expression::Binary(AT, operator, left, Boxed::new(alloc, right)?))
+    let right = Boxed::new(alloc, right)?;
+    Ok(Expression::Binary(AT, operator, left, right))
 }
 
 /// `initialize guarantee` with this expression alone.
@@ -88,39 +89,61 @@ fn guarantee(alloc: Global, expression: Expression) -> Result<Contract, Fail> {
     })
 }
 
+fn printed(alloc: Global, expression: Expression) -> Result<TextBuf, Fail> {
+    let contract = guarantee(alloc, expression)?;
+    Ok(print_annex(alloc, &contract)?)
+}
+
+/// Two names and an operator between them.
+fn pair(
+    alloc: Global,
+    left: &[u8],
+    operator: BinaryOperator,
+    right: &[u8],
+) -> Result<Expression, Fail> {
+    let left = value(alloc, left)?;
+    let right = value(alloc, right)?;
+    binary(alloc, left, operator, right)
+}
+
+fn difference_of_a_sum(alloc: Global) -> Result<Expression, Fail> {
+    let left = value(alloc, b"e")?;
+    let right = pair(alloc, b"a", BinaryOperator::Add, b"b")?;
+    binary(alloc, left, BinaryOperator::Subtract, right)
+}
+
+fn implication_of_an_implication(alloc: Global) -> Result<Expression, Fail> {
+    let left = pair(alloc, b"a", BinaryOperator::Implies, b"b")?;
+    let right = pair(alloc, b"c", BinaryOperator::Implies, b"d")?;
+    binary(alloc, left, BinaryOperator::Implies, right)
+}
+
+fn two_minus_signs(alloc: Global) -> Result<Expression, Fail> {
+    let operand = value(alloc, b"d")?;
+    let inner = unary(alloc, UnaryOperator::Minus, operand)?;
+    unary(alloc, UnaryOperator::Minus, inner)
+}
+
 #[test]
 fn parentheses_stand_where_the_tree_needs_them(rt: HostRuntime) -> Result<(), Fail> {
-    let alloc = rt.alloc();
-    let sum = binary(
-        alloc,
-        value(alloc, b"a")?,
-        BinaryOperator::Add,
-        value(alloc, b"b")?,
-    )?;
-    let left = binary(alloc, sum, BinaryOperator::Subtract, value(alloc, b"c")?)?;
-    let minus = unary(alloc, UnaryOperator::Minus, value(alloc, b"d")?)?;
-    let minus = unary(alloc, UnaryOperator::Minus, minus)?;
-    let right = binary(alloc, value(alloc, b"e")?, BinaryOperator::Subtract, left)?;
-    let product = binary(alloc, minus, BinaryOperator::Multiply, right)?;
-    let text = print_annex(alloc, &guarantee(alloc, product)?)?;
-    let wanted: &[u8] = b"initialize\nguarantee c \"\": - -d * (e - (a + b - c));\n";
+    let text = printed(rt.alloc(), difference_of_a_sum(rt.alloc())?)?;
+    let wanted: &[u8] = b"initialize\nguarantee c \"\": e - (a + b);\n";
     assert_eq!(rt; text.rows(), wanted);
     Ok(())
 }
 
 #[test]
 fn implication_groups_to_the_right(rt: HostRuntime) -> Result<(), Fail> {
-    let alloc = rt.alloc();
-    let inner = binary(
-        alloc,
-        value(alloc, b"a")?,
-        BinaryOperator::Implies,
-        value(alloc, b"b")?,
-    )?;
-    let outer = binary(alloc, inner, BinaryOperator::Implies, value(alloc, b"c")?)?;
-    let negated = unary(alloc, UnaryOperator::Not, outer)?;
-    let text = print_annex(alloc, &guarantee(alloc, negated)?)?;
-    let wanted: &[u8] = b"initialize\nguarantee c \"\": not ((a implies b) implies c);\n";
+    let text = printed(rt.alloc(), implication_of_an_implication(rt.alloc())?)?;
+    let wanted: &[u8] = b"initialize\nguarantee c \"\": (a implies b) implies c implies d;\n";
+    assert_eq!(rt; text.rows(), wanted);
+    Ok(())
+}
+
+#[test]
+fn two_minus_signs_are_no_comment(rt: HostRuntime) -> Result<(), Fail> {
+    let text = printed(rt.alloc(), two_minus_signs(rt.alloc())?)?;
+    let wanted: &[u8] = b"initialize\nguarantee c \"\": - -d;\n";
     assert_eq!(rt; text.rows(), wanted);
     Ok(())
 }
