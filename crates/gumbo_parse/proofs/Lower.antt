@@ -1,5 +1,5 @@
 -- Putting a word in lower case changes nothing of which word it is.
-use Rattle.std.proofs.Common.{◌≡◌, ℕ, Bool, true, false, List, [], ◌∷◌, refl}
+use Rattle.std.proofs.Common.{◌≡◌, ℕ, true, false, List, [], ◌∷◌, refl}
 use Rattle.std.specs.Prelude.{is_some}
 use Rattle.hw_text.specs.Name.{is_name, lowered}
 use Rattle.hw_text.proofs.NameLemmas.{name-lowered, lowered-lowered}

@@ -1,5 +1,5 @@
 -- The types of state variables: their grammar and canonical text (this project's own; docs/formats/contracts.md).
-use Rattle.std.specs.Prelude.{◌≡◌, ℕ, Bool, false, List, [], ◌∷◌, ◌++◌, codes, Option, Some, None}
+use Rattle.std.specs.Prelude.{◌≡◌, ℕ, false, List, [], ◌∷◌, ◌++◌, codes, Option, Some, None}
 use Rattle.std.specs.List.{flat_map}
 use Rattle.std.specs.Str.{bytes_eq}
 use Rattle.hw_text.specs.declared.place.Place.{Place}
@@ -8,7 +8,6 @@ use Rattle.gumbo_parse.specs.declared.token.Placed.{Placed}
 use Rattle.gumbo_parse.specs.declared.mark.Mark.TheVariants as mark
 use Rattle.gumbo_parse.specs.declared.class.BaseType.{BaseType}
 use Rattle.gumbo_parse.specs.declared.class.BaseType.TheVariants.{Boolean, Integer8, Integer16, Integer32, Integer64, Unsigned8, Unsigned16, Unsigned32, Unsigned64}
-use Rattle.gumbo_parse.specs.declared.class.ModelType.{ModelType}
 use Rattle.gumbo_parse.specs.declared.class.Class.{Class}
 use Rattle.gumbo_parse.specs.declared.class.Class.TheVariants.{Base, Model}
 use Rattle.gumbo_parse.specs.declared.class.Variable.{Variable}

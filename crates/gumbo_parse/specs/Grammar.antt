@@ -1,7 +1,6 @@
 -- The grammar of expressions: which tokens spell a tree. The levels are those of Operators; parentheses are no part of the tree.
-use Rattle.std.specs.Prelude.{◌≡◌, ℕ, ◌≤◌, Bool, if◌then◌else◌, List, [], ◌∷◌, ◌++◌, Option, Some, None}
+use Rattle.std.specs.Prelude.{◌≡◌, ℕ, ◌≤◌, Bool, if◌then◌else◌, List, [], ◌∷◌, ◌++◌, Some}
 use Rattle.hw_text.specs.declared.place.Place.{Place}
-use Rattle.gumbo_parse.specs.declared.token.Token.{Token}
 use Rattle.gumbo_parse.specs.declared.token.Token.TheVariants as token
 use Rattle.gumbo_parse.specs.declared.token.Placed.{Placed}
 use Rattle.gumbo_parse.specs.declared.word.Word.{Word}

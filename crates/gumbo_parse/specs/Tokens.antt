@@ -1,5 +1,5 @@
 -- The tokens of contracts (after SAE AS5506, lexical elements; docs/formats/contracts.md).
-use Rattle.std.specs.Prelude.{◌≡◌, ℕ, ◌^◌, Bool, ◌==◌, nat_lt, if◌then◌else◌, List, [], ◌∷◌, take, drop, Option, Some, None}
+use Rattle.std.specs.Prelude.{◌≡◌, ℕ, ◌^◌, ◌==◌, nat_lt, if◌then◌else◌, List, [], ◌∷◌, take, drop, Option, Some, None}
 use Rattle.std.specs.Option.{option_map}
 use Rattle.hw_text.specs.Name.{is_letter, is_digit, is_name, lowered}
 use Rattle.hw_text.specs.declared.place.Place.{Place}

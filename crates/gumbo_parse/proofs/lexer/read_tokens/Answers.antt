@@ -1,6 +1,5 @@
 use Rattle.std.proofs.Common.{[], sym, refl, subst}
 use Rattle.std.proofs.lemmas.List.{append-nil}
-use Rattle.gumbo_parse.specs.declared.token.Placed.{Placed}
 use Rattle.gumbo_parse.specs.Tokens.{Lexes}
 use Rattle.gumbo_parse.proofs.Lexing.{found-more}
 use Rattle.gumbo_parse.proofs.lexer.read_tokens.Goals as goal

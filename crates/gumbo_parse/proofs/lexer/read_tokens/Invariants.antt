@@ -1,4 +1,4 @@
-use Rattle.std.proofs.Common.{◌≡◌, List, ℕ, ◌++◌, length}
+use Rattle.std.proofs.Common.{List, ℕ, ◌++◌, length}
 use Rattle.hw_text.specs.declared.place.Place.{Place}
 use Rattle.gumbo_parse.specs.declared.token.Placed.{Placed}
 use Rattle.gumbo_parse.specs.Tokens.{AreTokensOf, Lexes}

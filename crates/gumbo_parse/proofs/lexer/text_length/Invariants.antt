@@ -1,4 +1,4 @@
-use Rattle.std.proofs.Common.{◌≡◌, ◌+◌, drop, take}
+use Rattle.std.proofs.Common.{◌≡◌, ◌+◌, drop}
 use Rattle.gumbo_parse.specs.Text.{text_length}
 use Rattle.gumbo_parse.proofs.lexer.text_length.Given as goal
 

@@ -1,4 +1,4 @@
-use Rattle.std.proofs.Common.{◌≡◌, ◌∙◌, true, false, sym, ap, rules}
+use Rattle.std.proofs.Common.{◌≡◌, true, false, rules}
 use Rattle.std.specs.Prelude.{is_some}
 use Rattle.hw_text.specs.Name.{is_name, lowered}
 use Rattle.hw_text.proofs.NameLemmas.{lowered-lowered}
