@@ -27,6 +27,11 @@ impl<T> Boxed<T> {
         &self.inner
     }
 
+    /// The allocator that the box was made with.
+    pub fn allocator(&self) -> Global {
+        *Box::allocator(&self.inner)
+    }
+
     pub fn into_inner(self) -> T
         ensures { result ≡ self }
     {

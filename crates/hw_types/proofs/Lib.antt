@@ -1,0 +1,10 @@
+pub mod Alignments
+pub mod BytesSteps
+pub mod Cells
+pub mod Meanings
+pub mod Numbers
+pub mod PlaceSteps
+pub mod ReadSteps
+pub mod RoundTrip
+pub mod Shapes
+pub mod Types

@@ -1,0 +1,6 @@
+pub mod Count
+pub mod Fault
+pub mod Layout
+pub mod Scalar
+pub mod Shape
+pub mod Value
