@@ -1,0 +1,2 @@
+mod Annexes
+mod Spelling

@@ -1,0 +1,16 @@
+//! The reader of models, from their bytes.
+#![tactic(auto)]
+
+mod annex_text;
+mod byte;
+mod lexer;
+mod number;
+mod quoted_text;
+mod stop;
+mod word;
+
+pub use lexer::{Lexed, read_tokens};
+pub use stop::Stop;
+
+#[cfg(test)]
+mod tests;
