@@ -1,7 +1,7 @@
 //! Property associations.
 
 ghost use Rattle.std.specs.Prelude.{◌≡◌};
-ghost use Rattle.aadl_tree.specs.Canonical.{operator_mark};
+ghost use Rattle.aadl_tree.specs.Values.{operator_mark};
 
 use crate::mark::Mark;
 use crate::names::{Path, QualifiedName};

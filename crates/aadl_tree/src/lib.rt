@@ -14,6 +14,7 @@ mod integer;
 mod mark;
 mod names;
 mod package;
+mod page;
 mod quoted;
 mod real;
 mod subcomponent;
