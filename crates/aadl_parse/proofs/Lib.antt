@@ -1,2 +1,3 @@
 mod Annexes
+mod Flawless
 mod Spelling

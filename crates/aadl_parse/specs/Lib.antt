@@ -1,2 +1,3 @@
+pub mod Flaws
 pub mod Fronts
 pub mod Stops

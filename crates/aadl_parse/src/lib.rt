@@ -3,6 +3,7 @@
 
 mod annex_text;
 mod byte;
+mod flaw;
 mod lexer;
 mod number;
 mod quoted_text;
