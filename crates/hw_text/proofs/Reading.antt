@@ -1,5 +1,5 @@
 -- How readers are put together: what a call knows amid a production, step by step.
-use Rattle.std.proofs.Common.{◌≡◌, ◌∙◌, refl, sym, ap, subst, List, [], ◌∷◌, ◌++◌, append_assoc, append-nil, Option, Some, None, Bool, false, true, inl, inr}
+use Rattle.std.proofs.Common.{◌≡◌, ◌∙◌, refl, sym, ap, subst, List, [], ◌∷◌, ◌++◌, drop, append_assoc, append-nil, Option, Some, None, Bool, false, true, inl, inr}
 use Rattle.std.proofs.lemmas.Bool.{false≢true}
 use Rattle.std.proofs.lemmas.List.{append_cancel_right}
 use Rattle.std.proofs.lemmas.Option.{same_Some}
@@ -16,6 +16,10 @@ module _ {T : Type 0} where
   first-same [] m n same = same
   first-same (t ∷ u) m n same = refl
 
+  first-none : (l : List T) → first l ≡ None → l ≡ []
+  first-none [] at = refl
+  first-none (t ∷ l) at = absurd (never-some t (sym at))
+
   -- the first token decides how a list begins
   pub first-begins : (test : T → Bool) (m n : List T) → first m ≡ first n → begins test m ≡ begins test n
   first-begins test [] [] same = refl
@@ -31,17 +35,26 @@ module _ {T : Type 0} where
   rest_of [] = []
   rest_of (t ∷ l) = l
 
+  first-then : (l : List T) (t : T) → first l ≡ Some t → l ≡ t ∷ drop 1 l
+  first-then [] t at = absurd (never-some t at)
+  first-then (u ∷ l) t at = ap (λ (v : T). v ∷ l) (same_Some u t at)
+
   module _ {X : Type 0} (value : T → Option X) (Follows : List T → Type 0) where
     -- a token was read
-    pub one-reached : (before rest : List T) (t : T) (x : X) → before ≡ t ∷ rest → value t ≡ Some x → Reached (One value) Follows before rest x
+    pub one-reached : (before after : List T) (t : T) (x : X) → first before ≡ Some t → after ≡ drop 1 before → value t ≡ Some x → Reached (One value) Follows before after x
     unfolding rest_of
-    one-reached before rest t x at is = record {
+    one-reached before after t x at behind is = record {
       taken = t ∷ [];
-      split = at;
+      split = first-then before t at ∙ ap (λ (l : List T). t ∷ l) (sym behind);
       spelled = (t, refl, is);
       only = λ y w m n text follows same ahead.
         let agrees = ap (λ (l : List T). l ++ m) (sym text.1) ∙ same in
         (same_Some y x (sym text.2 ∙ ap value (same_Some text.0 t (ap first agrees)) ∙ is), ap rest_of agrees) }
+
+    -- a token was read of which the test holds
+    pub such-reached : (test : T → Bool) (before after : List T) (x : X) → begins test before ≡ true → after ≡ drop 1 before → ((t : T) → test t ≡ true → value t ≡ Some x) → Reached (One value) Follows before after x
+    such-reached test [] after x at behind is = absurd (false≢true at)
+    such-reached test (t ∷ l) after x at behind is = one-reached (t ∷ l) after t x refl behind (is t at)
 
     -- the token at which the reader stands is none that may be read, or there is no token
     pub one-stuck : (before : List T) → ((t : T) × (x : X) × (value t ≡ Some x)) → ((t : T) → first before ≡ Some t → value t ≡ None) → Stuck (One value) Follows before before
@@ -52,6 +65,10 @@ module _ {T : Type 0} where
       none = λ y w m n text follows same ahead.
         let at = sym ahead ∙ ap first (sym same) ∙ ap (λ (l : List T). first (l ++ m)) text.1 in
         never-some y (sym (never text.0 at) ∙ text.2) }
+
+    -- no token of which the test holds is there, and no other may be read
+    pub such-stuck : (test : T → Bool) (before : List T) → ((t : T) × (x : X) × (value t ≡ Some x)) → begins test before ≡ false → ((t : T) → test t ≡ false → value t ≡ None) → Stuck (One value) Follows before before
+    such-stuck test before sample not_so never = one-stuck before sample (λ t at. never t (sym (begins-at test before t at) ∙ not_so))
 
   module _ {X : Type 0} (test : T → Bool) (so : Bool) where
     pub one-begins : (value : T → Option X) → ((t : T) (x : X) → value t ≡ Some x → test t ≡ so) → Begins test so (One value)
@@ -195,6 +212,15 @@ module _ {T Z : Type 0} (A : Z → List T → Type 0) (Follows : List T → Type
           no_more-at [] v m text follows ahead = (tt, refl, text)
           no_more-at (x ∷ xs) v m text follows ahead =
               absurd (never x text.0 (text.1 ++ m) text.3 (ap first (sym (append_assoc text.0 text.1 m)) ∙ ap (λ (l : List T). first (l ++ m)) (sym text.2) ∙ ahead))
+
+    -- a text was read, and another token stands behind it
+    pub unended : (z : Z) → ((m : List T) → Follows m → m ≡ []) → (after ≡ [] → ⊥) → Reached A Follows before after z → Stuck A Follows before after
+    unended z ends some so = record {
+      taken = so.taken;
+      split = so.split;
+      goes_on = (z, [], subst (A z) (sym (append-nil so.taken)) so.spelled);
+      none = λ y w m n text follows same ahead.
+        some (first-none after (sym ahead ∙ ap first (sym (so.only y w m n text follows same ahead).1 ∙ ends m follows))) }
 
   module _ {X : Type 0} (B : X → List T → Type 0) (Behind : List T → Type 0) (at after : List T) where
     module _ {Y : Type 0} (build : X × Y → Z) (C : Y → List T → Type 0) (so : Leaves A Follows before at build (B ⋅ C)) (follow : (y : Y) (w m : List T) → C y w → Follows m → Behind (w ++ m)) where

@@ -1,6 +1,6 @@
 //! A place in a list of tokens, from which readers go on.
 
-ghost use Rattle.std.specs.Prelude.{◌≡◌, [], ◌∷◌, length, Some, None, MatchOption};
+ghost use Rattle.std.specs.Prelude.{◌≡◌, length, drop, Some, None, MatchOption};
 ghost use Rattle.hw_text.specs.Reading.{first};
 
 use std::marker::Model;
@@ -44,11 +44,11 @@ impl<'a, T> Cursor<'a, T> {
     }
 
     /// Passes one token, if one is left.
-    pub fn next(&mut self) -> Option<&'a T>
-        ensures { MatchOption result ((self.old ≡ []) × (self.new ≡ [])) (λ t. self.old ≡ t.now ∷ self.new) }
+    pub fn pass(&mut self)
+        ensures { self.new ≡ drop 1 self.old }
     {
-        let (token, rest) = self.rest.split_first()?;
-        self.rest = rest;
-        Some(token)
+        if let Some((_, rest)) = self.rest.split_first() {
+            self.rest = rest;
+        }
     }
 }
