@@ -9,6 +9,11 @@ abbrev pub first : {T : Type 0} → List T → Option T
 first [] = None
 first (t ∷ ts) = Some t
 
+-- what the first token stands for
+abbrev pub ahead : {T X : Type 0} → (T → Option X) → List T → Option X
+ahead value [] = None
+ahead value (t ∷ ts) = value t
+
 -- whatever stands behind
 abbrev pub Anything : {T : Type 0} → List T → Type 0
 Anything m = ⊤
