@@ -1,5 +1,5 @@
 -- How readers are put together: what a call knows amid a production, step by step.
-use Rattle.std.proofs.Common.{◌≡◌, ◌∙◌, refl, sym, ap, subst, List, [], ◌∷◌, ◌++◌, drop, append_assoc, append-nil, Option, Some, None, Bool, false, true, inl, inr}
+use Rattle.std.proofs.Common.{◌≡◌, ◌∙◌, refl, sym, ap, subst, List, [], ◌∷◌, ◌++◌, drop, length, length-append, ◌≤◌, ◌<◌, arith, append_assoc, append-nil, Option, Some, None, Bool, false, true, inl, inr}
 use Rattle.std.proofs.lemmas.Bool.{false≢true}
 use Rattle.std.proofs.lemmas.List.{append_cancel_right}
 use Rattle.std.proofs.lemmas.Option.{same_Some}
@@ -327,6 +327,22 @@ module _ {T P X : Type 0} (note : List T → P) (A : X → List T → Type 0) (F
     goes_on = ((note (so.taken ++ so.goes_on.1), so.goes_on.0), so.goes_on.1, (refl, so.goes_on.2));
     none = λ y w m n text follows same looked. so.none y.1 w m n text.1 follows same looked;
   }
+
+module _ {T X : Type 0} (A : X → List T → Type 0) (Follows : List T → Type 0) (before after : List T) (x : X) where
+  -- no more is left than there was
+  pub never-longer : Reached A Follows before after x → length after ≤ length before
+  never-longer so = omega (arith, ap (λ (l : List T). length l) so.split, length-append so.taken after)
+
+  -- less is left where no text of the language is empty
+  pub shorter : ((y : X) (w : List T) → A y w → 0 < length w) → Reached A Follows before after x → length after < length before
+  shorter some so = omega (arith, ap (λ (l : List T). length l) so.split, length-append so.taken after, some x so.taken so.spelled)
+
+one-some : {T X : Type 0} (value : T → Option X) (x : X) (w : List T) → One value x w → 0 < length w
+one-some {T} value x w text = omega (arith, ap (λ (l : List T). length l) text.1)
+
+-- a token that was read is no longer left
+pub one-shorter : {T X : Type 0} (value : T → Option X) (Follows : List T → Type 0) (before after : List T) (x : X) → Reached (One value) Follows before after x → length after < length before
+one-shorter value Follows before after x so = shorter (One value) Follows before after x (one-some value) so
 
 -- a call that hands on how a call in it failed
 module _ {T X Y : Type 0} (A : X → List T → Type 0) (Follows : List T → Type 0) (before : List T) (B : Y → List T → Type 0) (Behind : List T → Type 0) (at after : List T) where

@@ -1,7 +1,7 @@
 -- What it means that tokens are read as a value of a language, and that no text of the language goes on (this project's own).
 -- A reader looks at no more than the first token behind what it reads. So what it says holds beside each text that agrees with
 -- what it read up to that token.
-use Rattle.std.specs.Prelude.{◌≡◌, List, [], ◌∷◌, ◌++◌, Option, Some, None, Result, Ok, Err, Bool, false, ⊤}
+use Rattle.std.specs.Prelude.{◌≡◌, List, [], ◌∷◌, ◌++◌, Option, Some, None, Result, Ok, Err, Bool, true, false, ⊤}
 use Rattle.hw_text.specs.declared.read_fault.ReadFault.{ReadFault}
 use Rattle.hw_text.specs.declared.read_fault.ReadFault.TheVariants.{Syntax, NoMemory}
 
@@ -26,6 +26,10 @@ TheEnd m = m ≡ []
 abbrev pub begins : {T : Type 0} → (T → Bool) → List T → Bool
 begins test [] = false
 begins test (t ∷ ts) = test t
+
+-- what stands behind begins with such a token
+abbrev pub BeginsWith : {T : Type 0} → (T → Bool) → List T → Type 0
+BeginsWith test m = begins test m ≡ true
 
 -- what stands behind begins with no such token
 abbrev pub BeginsWithout : {T : Type 0} → (T → Bool) → List T → Type 0

@@ -6,6 +6,7 @@ ghost use Rattle.hw_text.specs.Reading.{first};
 use std::marker::Model;
 
 /// The tokens that are left to be read.
+#[derive(Drop)]
 pub struct Cursor<'a, T> {
     rest: &'a [T],
 }
