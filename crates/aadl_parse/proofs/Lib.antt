@@ -1,3 +1,5 @@
 mod Annexes
 mod Flawless
+mod Repeats
+mod Sequences
 mod Spelling

@@ -1,3 +1,5 @@
 pub mod Flaws
 pub mod Fronts
+pub mod Laws
+pub mod Shapes
 pub mod Stops

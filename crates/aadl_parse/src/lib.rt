@@ -6,7 +6,10 @@ mod byte;
 mod flaw;
 mod lexer;
 mod number;
+mod part;
 mod quoted_text;
+mod repeat;
+mod sequence;
 mod stop;
 mod word;
 

@@ -1,0 +1,4 @@
+use Rattle.aadl_parse.proofs.repeat.members.Goals as goal
+
+pub members-init : goal.members-init
+members-init g c = ?
