@@ -5,3 +5,6 @@ mod Repeats
 mod Sequences
 mod SomeOf
 mod Spelling
+pub mod Wholes
+pub mod Failures
+pub mod Parses

@@ -9,13 +9,16 @@ mod leaf;
 mod lexer;
 mod made;
 mod number;
+mod parse;
 mod part;
 mod quoted_text;
+mod refusals;
 mod repeat;
 mod sequence;
 mod shape;
 mod stop;
 mod surround;
+mod whole;
 mod word;
 
 pub use lexer::{Lexed, read_tokens};
