@@ -1,6 +1,8 @@
 pub mod Code
+pub mod Language
 pub mod Name
 pub mod Places
+pub mod Reading
 pub mod Refusal
 pub mod Text
 pub mod Tokens

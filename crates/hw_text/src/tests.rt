@@ -105,3 +105,15 @@ fn places_count_on(rt: HostRuntime) {
     let behind = place_of_rest(Place::START, b"a\nbc d", b"d");
     assert_eq!(rt; behind, Place { line: 2, column: 4 });
 }
+
+#[test]
+fn a_cursor_passes_one_token_after_another(rt: HostRuntime) {
+    let tokens = [3_u64, 5];
+    let mut cursor = Cursor::new(&tokens);
+    assert_eq!(rt; cursor.left(), 2);
+    cursor.pass();
+    assert!(rt; matches!(cursor.peek(), Some(&5)));
+    cursor.pass();
+    cursor.pass();
+    assert!(rt; cursor.peek().is_none());
+}

@@ -1,0 +1,134 @@
+-- A text has one list of tokens and at most one first failure, and no text has a failure that is a model.
+use Rattle.std.proofs.Common.{◌≡◌, ◌∙◌, refl, sym, ap, subst, ℕ, zero, suc, ◌+◌, ◌-◌, ◌<◌, ◌≤◌, min, List, [], ◌∷◌, ◌++◌, length, take, drop, slice_get, take-take, take-append-drop, append_assoc, arith, Option, Some, None, inl, inr}
+use Rattle.std.specs.Prelude.{◌⊎◌, is_some}
+use Rattle.std.proofs.lemmas.Bool.{false≢true}
+use Rattle.std.proofs.lemmas.Option.{same_Some, slice_get_within, slice_get_cases}
+use Rattle.std.proofs.lemmas.Bool.{cases_order}
+use Rattle.hw_text.specs.declared.place.Place.{Place}
+use Rattle.hw_text.specs.declared.placed.Placed.{Placed}
+use Rattle.hw_text.specs.declared.refusal.Refusal.{Refusal}
+use Rattle.hw_text.specs.Places.{place_of_rest}
+use Rattle.hw_text.specs.Tokens.{AreTokensOf}
+use Rattle.hw_text.specs.Text.{skipped}
+use Rattle.aadl_tree.specs.declared.token.Token.{Token}
+use Rattle.aadl_tree.specs.Tokens.{token_at}
+use Rattle.aadl_parse.specs.declared.flaw.Flaw.{Flaw}
+use Rattle.aadl_parse.specs.declared.stop.Stop.{Stop}
+use Rattle.aadl_parse.specs.declared.stop.Stop.TheVariants as stop
+use Rattle.aadl_parse.specs.Flaws.{flaw_at}
+use Rattle.aadl_parse.specs.Stops.{HasTokens, stop_at}
+use Rattle.aadl_parse.specs.Whole.{GoesOn}
+use Rattle.aadl_parse.specs.Refusals.{IsTextOf, FailsThere, FailsAt, FailsFirst, IsRefusedAs, IsAccepted, IsRejected, stopped, unexpected, flawed, too_long}
+
+none-some : {X : Type 0} (x : X) → None ≡ Some x → ⊥
+none-some x same = false≢true (ap is_some same)
+
+none-some-at : (ts : List (Placed Token)) (i j : ℕ) (u : Placed Token) → slice_get ts i ≡ None → slice_get ts j ≡ Some u → i < j → ⊥
+none-some-at ts i j u e d below = elim (slice_get_cases ts i).1 [
+  | inl h ↦ none-some h.0 (sym e ∙ h.2)
+  | inr h ↦ omega (arith, h.0, below, slice_get_within ts j u d)
+]
+
+tokens-one : (at : Place) (bs : List ℕ) (ts us : List (Placed Token)) (e f : Place) (r s : List ℕ) → AreTokensOf token_at skipped at bs ts e r → AreTokensOf token_at skipped at bs us f s → (ts ≡ us) × (e ≡ f) × (r ≡ s)
+tokens-one at bs [] [] e f r s h k = (refl, h.1 ∙ sym k.1, h.2 ∙ sym k.2)
+tokens-one at bs [] (u ∷ us) e f r s h k = absurd (none-some (u.token, k.0) (sym h.0 ∙ k.1))
+tokens-one at bs (t ∷ ts) [] e f r s h k = absurd (none-some (t.token, h.0) (sym k.0 ∙ h.1))
+tokens-one at bs (t ∷ ts) (u ∷ us) e f r s h k =
+    let pair = same_Some (t.token, h.0) (u.token, k.0) (sym h.1 ∙ k.1) in
+    let after : h.0 ≡ k.0 = ap (λ (p : Token × List ℕ). p.1) pair in
+    let same : t ≡ u = ap (λ (p : Token × List ℕ). record { token = p.0; place = t.place }) pair ∙ ap (λ (q : Place). record { token = u.token; place = q }) (h.2 ∙ sym k.2) in
+    let rest = tokens-one (place_of_rest at bs (skipped h.0)) (skipped h.0) ts us e f r s h.3
+    (subst (λ (a : List ℕ). AreTokensOf token_at skipped (place_of_rest at bs (skipped a)) (skipped a) us f s) (sym after) k.3) in
+    (ap (λ (x : Placed Token). x ∷ ts) same ∙ ap (λ (l : List (Placed Token)). u ∷ l) rest.0, rest.1, rest.2)
+
+pub same-tokens : (bytes : List ℕ) (ts us : List (Placed Token)) (e f : Place) (c d : Stop) → HasTokens bytes ts e c → HasTokens bytes us f d → (ts ≡ us) × (e ≡ f) × (c ≡ d)
+same-tokens bytes ts us e f c d h k =
+    let one = tokens-one _ _ ts us e f h.behind k.behind h.lexed k.lexed in
+    (one.0, one.1, h.stopped ∙ ap stop_at one.2 ∙ sym k.stopped)
+
+module _ {X : Type 0} (A : X → List (Placed Token) → Type 0) where
+  -- what a text begins with is begun by what that begins with
+  pub earlier : (ts : List (Placed Token)) (i j : ℕ) → i ≤ j → GoesOn A (take j ts) → GoesOn A (take i ts)
+  earlier ts i j below goes =
+      let within : take i (take j ts) ≡ take i ts = take-take i j ts below in
+      let whole : take i ts ++ drop i (take j ts) ≡ take j ts = ap (λ (l : List (Placed Token)). l ++ drop i (take j ts)) (sym within) ∙ take-append-drop i (take j ts) in (
+        goes.0,
+        drop i (take j ts) ++ goes.1,
+        subst (A goes.0) (ap (λ (l : List (Placed Token)). l ++ goes.1) (sym whole) ∙ append_assoc (take i ts) (drop i (take j ts)) goes.1) goes.2,
+      )
+
+  pub text-goes-on : (ts : List (Placed Token)) (x : X) → A x ts → (i : ℕ) → GoesOn A (take i ts)
+  text-goes-on ts x text i = (x, drop i ts, subst (A x) (sym (take-append-drop i ts)) text)
+
+  module _ (ts : List (Placed Token)) (end : Place) (cause : Stop) where
+    no-later : (i j : ℕ) (r s : Refusal) (o q : Option (Placed Token)) → slice_get ts i ≡ o → slice_get ts j ≡ q → i < j → FailsThere A ts end cause i r o → GoesOn A (take j ts) → ((k : ℕ) → k < j → flaw_at ts k ≡ None) → FailsThere A ts end cause j s q → r ≡ s
+    no-later i j r s None None e d below h goes sound k = h.0 ∙ sym k.0
+    no-later i j r s None (Some u) e d below h goes sound k = absurd (none-some-at ts i j u e d below)
+    no-later i j r s (Some t) q e d below (inl h) goes sound k = absurd (h.0 (earlier ts (i + 1) j (omega (arith, below)) goes))
+    no-later i j r s (Some t) q e d below (inr h) goes sound k = absurd (none-some h.1.0 (sym (sound i below) ∙ h.1.1))
+
+    at-one : (i : ℕ) (r s : Refusal) (o : Option (Placed Token)) → FailsThere A ts end cause i r o → FailsThere A ts end cause i s o → r ≡ s
+    at-one i r s None h k = h.0 ∙ sym k.0
+    at-one i r s (Some t) (inl h) (inl k) = h.1 ∙ sym k.1
+    at-one i r s (Some t) (inl h) (inr k) = absurd (h.0 k.0)
+    at-one i r s (Some t) (inr h) (inl k) = absurd (k.0 h.0)
+    at-one i r s (Some t) (inr h) (inr k) = h.1.2 ∙ ap (flawed t.place) (same_Some h.1.0 k.1.0 (sym h.1.1 ∙ k.1.1)) ∙ sym k.1.2
+
+    -- what fails first is one
+    pub first-one : (i j : ℕ) (r s : Refusal) → FailsAt A ts end cause i r → FailsAt A ts end cause j s → r ≡ s
+    first-one i j r s h k = elim (cases_order i j) [
+      | inl same ↦ at-one j r s (slice_get ts j) (subst (λ (n : ℕ). FailsThere A ts end cause n r (slice_get ts n)) same h.fails) k.fails
+      | inr other ↦ elim other [
+        | inl below ↦ no-later i j r s (slice_get ts i) (slice_get ts j) refl refl below h.fails k.goes_on k.sound k.fails
+        | inr above ↦ sym (no-later j i s r (slice_get ts j) (slice_get ts i) refl refl above k.fails h.goes_on h.sound h.fails)
+      ]
+    ]
+
+    -- a text does not fail
+    text-fails : (i : ℕ) (r : Refusal) (x : X) → A x ts → cause ≡ stop.End → ((k : ℕ) → flaw_at ts k ≡ None) → (o : Option (Placed Token)) → FailsThere A ts end cause i r o → ⊥
+    text-fails i r x text ended sound None h = h.1 ended x text
+    text-fails i r x text ended sound (Some t) (inl h) = h.0 (text-goes-on ts x text (i + 1))
+    text-fails i r x text ended sound (Some t) (inr h) = none-some h.1.0 (sym (sound i) ∙ h.1.1)
+
+    pub text-sound : (i : ℕ) (r : Refusal) (x : X) → A x ts → cause ≡ stop.End → ((k : ℕ) → flaw_at ts k ≡ None) → FailsAt A ts end cause i r → ⊥
+    text-sound i r x text ended sound h = text-fails i r x text ended sound (slice_get ts i) h.fails
+
+  module _ (bytes : List ℕ) where
+    fails-as : (ts us : List (Placed Token)) (e f : Place) (c d : Stop) (i : ℕ) (r : Refusal) → (ts ≡ us) × (e ≡ f) × (c ≡ d) → FailsAt A us f d i r → FailsAt A ts e c i r
+    fails-as ts us e f c d i r same h =
+        subst (λ (l : List (Placed Token)). FailsAt A l e c i r) (sym same.0)
+        (subst (λ (p : Place). FailsAt A us p c i r) (sym same.1) (subst (λ (p : Stop). FailsAt A us f p i r) (sym same.2) h))
+
+    failures-one : (r s : Refusal) → FailsFirst A bytes r → FailsFirst A bytes s → r ≡ s
+    failures-one r s h k =
+        let same = same-tokens bytes h.tokens k.tokens h.end k.end h.cause k.cause h.lexed k.lexed in
+        first-one h.tokens h.end h.cause h.index k.index r s h.fails (fails-as h.tokens k.tokens h.end k.end h.cause k.cause k.index s same k.fails)
+
+    refusals-one : (r s : Refusal) → IsRefusedAs A bytes r → IsRefusedAs A bytes s → r ≡ s
+    refusals-one r s (inl h) (inl k) = h.1 ∙ sym k.1
+    refusals-one r s (inl h) (inr k) = absurd (omega (arith, h.0, k.0))
+    refusals-one r s (inr h) (inl k) = absurd (omega (arith, h.0, k.0))
+    refusals-one r s (inr h) (inr k) = failures-one r s h.1 k.1
+
+    text-refused : (x : X) (r : Refusal) → IsTextOf A bytes x → IsRefusedAs A bytes r → ⊥
+    text-refused x r t (inl h) = omega (arith, h.0, t.small)
+    text-refused x r t (inr h) =
+        let k = h.1 in
+        let same = same-tokens bytes t.tokens k.tokens t.end k.end stop.End k.cause t.lexed k.lexed in
+        text-sound k.tokens k.end k.cause k.index r x (subst (A x) same.0 t.spelled) (sym same.2) (subst (λ (l : List (Placed Token)). (n : ℕ) → flaw_at l n ≡ None) same.0 t.sound) k.fails
+
+    -- what is refused is refused so alone, and is no text
+    pub rejected : (r : Refusal) → IsRefusedAs A bytes r → IsRejected A bytes r
+    rejected r h = record {
+      refused = h;
+      only = λ s k. refusals-one s r k h;
+      no_text = λ x t. text-refused x r t h;
+    }
+
+    -- what is a text is one of this value alone, and is not refused
+    pub accepted : (x : X) (t : IsTextOf A bytes x) → ((y : X) → A y t.tokens → y ≡ x) → IsAccepted A bytes x
+    accepted x t one = record {
+      text = t;
+      only = λ y u. one y (subst (A y) (same-tokens bytes u.tokens t.tokens u.end t.end stop.End stop.End u.lexed t.lexed).0 u.spelled);
+      not_refused = λ r h. text-refused x r t h;
+    }

@@ -1,0 +1,28 @@
+//! The reader of models, from their bytes.
+#![tactic(auto)]
+
+mod annex_text;
+mod byte;
+mod choice;
+mod flaw;
+mod leaf;
+mod lexer;
+mod made;
+mod number;
+mod parse;
+mod part;
+mod quoted_text;
+mod refusals;
+mod repeat;
+mod sequence;
+mod shape;
+mod stop;
+mod surround;
+mod whole;
+mod word;
+
+pub use lexer::{Lexed, read_tokens};
+pub use stop::Stop;
+
+#[cfg(test)]
+mod tests;

@@ -1,0 +1,97 @@
+//! Whole texts: from bytes to the value that they are a text of, or to the first failure.
+
+ghost use Rattle.std.specs.Prelude.{◌≡◌, ◌<◌, ℕ, slice_get, Some, None, IfOk};
+ghost use Rattle.aadl_parse.specs.Flaws.{flaw_at};
+ghost use Rattle.aadl_parse.specs.Refusals.{IsAccepted, IsRejected, IfRefused, IsSound, FailsAt, unexpected_there, FlawIsTold};
+
+use crate::flaw::{Flawed, first_flawed};
+use crate::lexer::{Lexed, read_tokens};
+use crate::part::{Closed, Part};
+use crate::refusals::{LARGEST, flawed, stopped, too_long, unexpected};
+use crate::stop::Stop;
+use crate::whole::{Whole, read_whole};
+use hw_text::{Fault, NoMemory, Refusal};
+use std::alloc::Global;
+
+/// Reads a whole text of a part of the grammar.
+pub fn read_text<P: Closed>(alloc: Global, bytes: &[u8]) -> Result<P::Value, Fault>
+    ensures accepted { IfOk result (λ value. IsAccepted P.Part.spells bytes.now value) }
+    ensures rejected { IfRefused result (λ refusal. IsRejected P.Part.spells bytes.now refusal) }
+{
+    if bytes.len() > LARGEST {
+        return Err(Fault::Refused(too_long(alloc, bytes.len())?));
+    }
+    let lexed = read_tokens(alloc, bytes)?;
+    read_lexed::<P>(alloc, &lexed)
+}
+
+/// Reads the tokens of a text, and what stopped them.
+fn read_lexed<P: Closed>(alloc: Global, lexed: &Lexed) -> Result<P::Value, Fault>
+    ensures read { IfOk result (λ value. IsSound P.Part.spells lexed.now.tokens lexed.now.stop value) }
+    ensures refused { IfRefused result (λ refusal. (i : ℕ) × FailsAt P.Part.spells lexed.now.tokens lexed.now.end lexed.now.stop i refusal) }
+{
+    match first_flawed(lexed.tokens.rows()) {
+        Some(flaw) => Err(Fault::Refused(failure_before::<P>(alloc, lexed, flaw)?)),
+        None => read_flawless::<P>(alloc, lexed),
+    }
+}
+
+/// Reads tokens of which each is as it should be.
+fn read_flawless<P: Closed>(alloc: Global, lexed: &Lexed) -> Result<P::Value, Fault>
+    requires { (k : ℕ) → flaw_at lexed.now.tokens k ≡ None }
+    ensures read { IfOk result (λ value. IsSound P.Part.spells lexed.now.tokens lexed.now.stop value) }
+    ensures refused { IfRefused result (λ refusal. (i : ℕ) × FailsAt P.Part.spells lexed.now.tokens lexed.now.end lexed.now.stop i refusal) }
+{
+    match read_whole::<P>(alloc, lexed.tokens.rows())? {
+        Whole::Text(value) => {
+            if lexed.stop == Stop::End {
+                Ok(value)
+            } else {
+                Err(Fault::Refused(stopped(alloc, lexed.stop, lexed.end)))
+            }
+        }
+        Whole::Stuck(passed) => Err(Fault::Refused(unexpected_behind(alloc, lexed, passed)?)),
+    }
+}
+
+/// The first failure in tokens of which one has a flaw.
+fn failure_before<P: Closed>(
+    alloc: Global,
+    lexed: &Lexed,
+    flaw: Flawed,
+) -> Result<Refusal, NoMemory>
+    requires flawed { flaw_at lexed.now.tokens flaw.index ≡ Some flaw.flaw }
+    requires first { (k : ℕ) → k < flaw.index → flaw_at lexed.now.tokens k ≡ None }
+    ensures { IfOk result (λ refusal. (i : ℕ) × FailsAt P.Part.spells lexed.now.tokens lexed.now.end lexed.now.stop i refusal) }
+{
+    let (front, _) = lexed.tokens.rows().split_at(flaw.index + 1);
+    match read_whole::<P>(alloc, front)? {
+        Whole::Text(_) => Ok(flawed_there(alloc, lexed, flaw)?),
+        Whole::Stuck(passed) => {
+            if passed <= flaw.index {
+                Ok(unexpected_behind(alloc, lexed, passed)?)
+            } else {
+                Ok(flawed_there(alloc, lexed, flaw)?)
+            }
+        }
+    }
+}
+
+/// Why no text goes on behind so many tokens.
+fn unexpected_behind(alloc: Global, lexed: &Lexed, passed: usize) -> Result<Refusal, NoMemory>
+    ensures { IfOk result (λ refusal. refusal ≡ unexpected_there lexed.now.end lexed.now.stop (slice_get lexed.now.tokens passed)) }
+{
+    match lexed.tokens.rows().get(passed) {
+        Some(placed) => unexpected(alloc, &placed.token, placed.place),
+        None => Ok(stopped(alloc, lexed.stop, lexed.end)),
+    }
+}
+
+/// What is wrong with the token that has the flaw.
+fn flawed_there(alloc: Global, lexed: &Lexed, flaw: Flawed) -> Result<Refusal, NoMemory>
+    requires { flaw_at lexed.now.tokens flaw.index ≡ Some flaw.flaw }
+    ensures { IfOk result (λ refusal. FlawIsTold lexed.now.tokens flaw.index flaw.flaw refusal) }
+{
+    let placed = &lexed.tokens.rows()[flaw.index];
+    flawed(alloc, placed.place, flaw.flaw)
+}
