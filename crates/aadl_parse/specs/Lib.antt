@@ -1,5 +1,6 @@
 pub mod Flaws
 pub mod Fronts
+pub mod Grammar
 pub mod Laws
 pub mod LeftOut
 pub mod Refusals

@@ -1,5 +1,7 @@
 -- From what was read to what is judged.
-use Rattle.std.proofs.Common.{ℕ, List, Option, Result, Ok, Err, IfOk, sym}
+use Rattle.std.proofs.Common.{◌≡◌, ◌∙◌, ℕ, List, Option, Result, Ok, Err, IfOk, sym}
+use Rattle.hamr_tool.specs.declared.report.Report.{Report}
+use Rattle.aadl_tree.specs.declared.package.Package.{Package}
 use Rattle.arch_model.specs.declared.parts.ArchParts.{ArchParts}
 use Rattle.hw_text.specs.declared.no_memory.NoMemory.{NoMemory}
 use Rattle.hamr_tool.specs.declared.files.Stop.{Stop}
@@ -8,7 +10,7 @@ use Rattle.hamr_tool.specs.declared.judgement.Judgement.TheVariants as judgement
 use Rattle.hamr_tool.specs.declared.trace.fault.TraceFault.{TraceFault}
 use Rattle.hamr_tool.specs.declared.trace.fault.TraceFault.TheVariants as fault
 use Rattle.hamr_tool.specs.declared.trace.line.Line.{Line}
-use Rattle.hamr_tool.specs.Judge.{IsJudgedTrace, IsJudgedBy, IsJudged, UnreadAs}
+use Rattle.hamr_tool.specs.Judge.{IsJudgedTrace, IsJudgedBy, IsJudged, JudgeTells, UnreadAs}
 use Rattle.hamr_tool.specs.Trace.{IsTraceOf, IsFirstBadLine}
 use Rattle.hamr_tool.specs.TraceFault.{OnBadLine, GivesTrace, GivesBadLine}
 
@@ -26,8 +28,35 @@ pub IfOk-map : (answer : Result Judgement Stop) (P Q : Judgement → Type 0) →
 IfOk-map (Ok found) P Q each held = each found held
 IfOk-map (Err stop) P Q each held = tt
 
-pub judged-by : (held : List ℕ → Option (List ℕ)) (model trace : List ℕ) (found : Judgement) → IsJudgedBy held model trace found → IsJudged held model trace found
-judged-by held model trace judgement.NotBuilt by = absurd by.judged.judged
-judged-by held model trace (judgement.BadLine number) by = by
-judged-by held model trace judgement.Legal by = by
-judged-by held model trace (judgement.Illegal number rule) by = by
+pub judged-by : (held : List ℕ → Option (List ℕ)) (tree : Package) (trace : List ℕ) (found : Judgement) → IsJudgedBy held tree trace found → IsJudged held tree trace found
+judged-by held tree trace judgement.NotBuilt by = absurd by.judged.judged
+judged-by held tree trace (judgement.BadLine number) by = by
+judged-by held tree trace judgement.Legal by = by
+judged-by held tree trace (judgement.Illegal number rule) by = by
+
+pub report-map : (answer : Result Report Stop) (P Q : Report → Type 0) → ((report : Report) → P report → Q report) → IfOk answer P → IfOk answer Q
+report-map (Ok report) P Q each told = each report told
+report-map (Err stop) P Q each told = tt
+
+-- what is told of files that were held before
+judged-earlier : (held after : List ℕ → Option (List ℕ)) (tree : Package) (trace : List ℕ) (found : Judgement) → ((name : List ℕ) → after name ≡ held name) → IsJudgedBy after tree trace found → IsJudgedBy held tree trace found
+judged-earlier held after tree trace found kept by = record {
+  arch = by.arch;
+  is_thin = by.is_thin;
+  only = by.only;
+  judged = record {
+    bytes = by.judged.bytes;
+    trace_held = sym (kept trace) ∙ by.judged.trace_held;
+    judged = by.judged.judged } }
+
+earlier : (held after : List ℕ → Option (List ℕ)) (tree : Package) (trace : List ℕ) (found : Judgement) → ((name : List ℕ) → after name ≡ held name) → IsJudged after tree trace found → IsJudged held tree trace found
+earlier held after tree trace judgement.NotBuilt kept by = by
+earlier held after tree trace (judgement.BadLine number) kept by = judged-earlier held after tree trace (judgement.BadLine number) kept by
+earlier held after tree trace judgement.Legal kept by = judged-earlier held after tree trace judgement.Legal kept by
+earlier held after tree trace (judgement.Illegal number rule) kept by = judged-earlier held after tree trace (judgement.Illegal number rule) kept by
+
+pub tells-earlier : (held after : List ℕ → Option (List ℕ)) (model trace : List ℕ) (tree : Package) (report : Report) → ((name : List ℕ) → after name ≡ held name) → JudgeTells after model trace tree report → JudgeTells held model trace tree report
+tells-earlier held after model trace tree report kept tells = record {
+  found = tells.found;
+  judged = earlier held after tree trace tells.found kept tells.judged;
+  told = tells.told }

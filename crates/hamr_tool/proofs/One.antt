@@ -9,9 +9,19 @@ use Rattle.rts_rules.specs.Step.{IsAllowed, after}
 use Rattle.rts_rules.specs.Run.{AreAllowed, after_all, IsFirstIllegal}
 use Rattle.hamr_tool.specs.declared.judgement.Judgement.{Judgement}
 use Rattle.hamr_tool.specs.declared.judgement.Judgement.TheVariants as judgement
-use Rattle.hamr_tool.specs.Judge.{IsJudgedBy, IsNotBuilt, IsJudged, told_of, events_of}
+use Rattle.std.proofs.Common.{inl, inr}
+use Rattle.std.proofs.lemmas.Option.{same_Some}
+use Rattle.hw_text.specs.declared.refusal.Refusal.{Refusal}
+use Rattle.aadl_tree.specs.declared.package.Package.{Package}
+use Rattle.aadl_parse.specs.Grammar.{SpellsPackage}
+use Rattle.aadl_parse.specs.Refusals.{IsTextOf, IsRefusedAs}
+use Rattle.hamr_tool.specs.declared.report.Report.{Report}
+use Rattle.hamr_tool.specs.Cause.{report_of, refused}
+use Rattle.hamr_tool.specs.ModelFile.{OnModel}
+use Rattle.hamr_tool.specs.Tidy.{IsTidied}
+use Rattle.hamr_tool.specs.Judge.{IsJudgedBy, IsJudged, JudgeTells, told_of, events_of}
 use Rattle.hamr_tool.specs.Answer.{OutputIsOne}
-use Rattle.hamr_tool.specs.Command.{judge}
+use Rattle.hamr_tool.specs.Command.{judge, tidy}
 
 -- the first event that no rule allows stands at one place
 pub record SamePlace (before before' : List Event) (here here' : Event) : Type 0 where
@@ -49,84 +59,95 @@ illegal-one arch events number number' rule rule' one other =
     rw (numbers, rules) refl
 
 -- the two files that two judgements speak of are the same
-pub record SameFiles {held : List ℕ → Option (List ℕ)} {model trace : List ℕ} {found found' : Judgement}
-    (one : IsJudgedBy held model trace found) (other : IsJudgedBy held model trace found') : Type 0 where
+pub record SameFiles {held : List ℕ → Option (List ℕ)} {tree : Package} {trace : List ℕ} {found found' : Judgement}
+    (one : IsJudgedBy held tree trace found) (other : IsJudgedBy held tree trace found') : Type 0 where
   pub arch : other.arch ≡ one.arch
   pub bytes : other.judged.bytes ≡ one.judged.bytes
 
-same-files : (held : List ℕ → Option (List ℕ)) (model trace : List ℕ) (found found' : Judgement)
-    (one : IsJudgedBy held model trace found) (other : IsJudgedBy held model trace found') → SameFiles one other
-same-files held model trace found found' one other =
-    let models = sym other.model_held ∙ one.model_held in
-    let model_bytes : other.bytes ≡ one.bytes = cc in
+same-files : (held : List ℕ → Option (List ℕ)) (tree : Package) (trace : List ℕ) (found found' : Judgement)
+    (one : IsJudgedBy held tree trace found) (other : IsJudgedBy held tree trace found') → SameFiles one other
+same-files held tree trace found found' one other =
     let traces = sym other.judged.trace_held ∙ one.judged.trace_held in
     let trace_bytes : other.judged.bytes ≡ one.judged.bytes = cc in
-    record { arch = one.only other.arch (rw (← model_bytes) other.is_model); bytes = trace_bytes }
+    record { arch = one.only other.arch other.is_thin; bytes = trace_bytes }
 
-judged-one : (held : List ℕ → Option (List ℕ)) (model trace : List ℕ) (found found' : Judgement) →
-    IsJudgedBy held model trace found → IsJudgedBy held model trace found' → found ≡ found'
-judged-one held model trace judgement.NotBuilt found' one other = absurd one.judged.judged
-judged-one held model trace (judgement.BadLine number) judgement.NotBuilt one other = absurd other.judged.judged
-judged-one held model trace (judgement.BadLine number) (judgement.BadLine number') one other =
-    let files = same-files held model trace (judgement.BadLine number) (judgement.BadLine number') one other in
+judged-one : (held : List ℕ → Option (List ℕ)) (tree : Package) (trace : List ℕ) (found found' : Judgement) →
+    IsJudgedBy held tree trace found → IsJudgedBy held tree trace found' → found ≡ found'
+judged-one held tree trace judgement.NotBuilt found' one other = absurd one.judged.judged
+judged-one held tree trace (judgement.BadLine number) judgement.NotBuilt one other = absurd other.judged.judged
+judged-one held tree trace (judgement.BadLine number) (judgement.BadLine number') one other =
+    let files = same-files held tree trace (judgement.BadLine number) (judgement.BadLine number') one other in
     let numbers : number' ≡ number = one.judged.judged.only number' (rw (← files.arch, ← files.bytes) other.judged.judged.first) in
     rw numbers refl
-judged-one held model trace (judgement.BadLine number) judgement.Legal one other =
-    let files = same-files held model trace (judgement.BadLine number) judgement.Legal one other in
+judged-one held tree trace (judgement.BadLine number) judgement.Legal one other =
+    let files = same-files held tree trace (judgement.BadLine number) judgement.Legal one other in
     absurd (one.judged.judged.none other.judged.judged.lines (rw (← files.arch, ← files.bytes) other.judged.judged.text))
-judged-one held model trace (judgement.BadLine number) (judgement.Illegal number' rule) one other =
-    let files = same-files held model trace (judgement.BadLine number) (judgement.Illegal number' rule) one other in
+judged-one held tree trace (judgement.BadLine number) (judgement.Illegal number' rule) one other =
+    let files = same-files held tree trace (judgement.BadLine number) (judgement.Illegal number' rule) one other in
     absurd (one.judged.judged.none other.judged.judged.lines (rw (← files.arch, ← files.bytes) other.judged.judged.text))
-judged-one held model trace judgement.Legal judgement.NotBuilt one other = absurd other.judged.judged
-judged-one held model trace judgement.Legal (judgement.BadLine number) one other =
-    let files = same-files held model trace (judgement.BadLine number) judgement.Legal other one in
+judged-one held tree trace judgement.Legal judgement.NotBuilt one other = absurd other.judged.judged
+judged-one held tree trace judgement.Legal (judgement.BadLine number) one other =
+    let files = same-files held tree trace (judgement.BadLine number) judgement.Legal other one in
     absurd (other.judged.judged.none one.judged.judged.lines (rw (← files.arch, ← files.bytes) one.judged.judged.text))
-judged-one held model trace judgement.Legal judgement.Legal one other = refl
-judged-one held model trace judgement.Legal (judgement.Illegal number rule) one other =
-    let files = same-files held model trace judgement.Legal (judgement.Illegal number rule) one other in
+judged-one held tree trace judgement.Legal judgement.Legal one other = refl
+judged-one held tree trace judgement.Legal (judgement.Illegal number rule) one other =
+    let files = same-files held tree trace judgement.Legal (judgement.Illegal number rule) one other in
     let lines = one.judged.judged.only other.judged.judged.lines (rw (← files.arch, ← files.bytes) other.judged.judged.text) in
     absurd (other.judged.judged.says.no_run (rw (files.arch, lines) one.judged.judged.says))
-judged-one held model trace (judgement.Illegal number rule) judgement.NotBuilt one other = absurd other.judged.judged
-judged-one held model trace (judgement.Illegal number rule) (judgement.BadLine number') one other =
-    let files = same-files held model trace (judgement.BadLine number') (judgement.Illegal number rule) other one in
+judged-one held tree trace (judgement.Illegal number rule) judgement.NotBuilt one other = absurd other.judged.judged
+judged-one held tree trace (judgement.Illegal number rule) (judgement.BadLine number') one other =
+    let files = same-files held tree trace (judgement.BadLine number') (judgement.Illegal number rule) other one in
     absurd (other.judged.judged.none one.judged.judged.lines (rw (← files.arch, ← files.bytes) one.judged.judged.text))
-judged-one held model trace (judgement.Illegal number rule) judgement.Legal one other =
-    let files = same-files held model trace judgement.Legal (judgement.Illegal number rule) other one in
+judged-one held tree trace (judgement.Illegal number rule) judgement.Legal one other =
+    let files = same-files held tree trace judgement.Legal (judgement.Illegal number rule) other one in
     let lines = other.judged.judged.only one.judged.judged.lines (rw (← files.arch, ← files.bytes) one.judged.judged.text) in
     absurd (one.judged.judged.says.no_run (rw (files.arch, lines) other.judged.judged.says))
-judged-one held model trace (judgement.Illegal number rule) (judgement.Illegal number' rule') one other =
-    let files = same-files held model trace (judgement.Illegal number rule) (judgement.Illegal number' rule') one other in
+judged-one held tree trace (judgement.Illegal number rule) (judgement.Illegal number' rule') one other =
+    let files = same-files held tree trace (judgement.Illegal number rule) (judgement.Illegal number' rule') one other in
     let lines = one.judged.judged.only other.judged.judged.lines (rw (← files.arch, ← files.bytes) other.judged.judged.text) in
     illegal-one one.arch (events_of one.judged.judged.lines) number number' rule rule' one.judged.judged.says.first
     (rw (← files.arch, ← lines) other.judged.judged.says.first)
 
--- a model that is none is not judged
-not-both : (held : List ℕ → Option (List ℕ)) (model trace : List ℕ) (found : Judgement) → IsNotBuilt held model → IsJudgedBy held model trace found → ⊥
-not-both held model trace found none by =
-    let models = sym by.model_held ∙ none.model_held in
-    let bytes : by.bytes ≡ none.bytes = cc in
-    none.none by.arch (rw (← bytes) by.is_model)
+judgement-one : (held : List ℕ → Option (List ℕ)) (tree : Package) (trace : List ℕ) (found found' : Judgement) →
+    IsJudged held tree trace found → IsJudged held tree trace found' → found ≡ found'
+judgement-one held tree trace judgement.NotBuilt judgement.NotBuilt one other = refl
+judgement-one held tree trace judgement.NotBuilt (judgement.BadLine number) one other = absurd (one other.arch other.is_thin)
+judgement-one held tree trace judgement.NotBuilt judgement.Legal one other = absurd (one other.arch other.is_thin)
+judgement-one held tree trace judgement.NotBuilt (judgement.Illegal number rule) one other = absurd (one other.arch other.is_thin)
+judgement-one held tree trace (judgement.BadLine number) judgement.NotBuilt one other = absurd (other one.arch one.is_thin)
+judgement-one held tree trace (judgement.BadLine number) (judgement.BadLine number') one other = judged-one held tree trace (judgement.BadLine number) (judgement.BadLine number') one other
+judgement-one held tree trace (judgement.BadLine number) judgement.Legal one other = judged-one held tree trace (judgement.BadLine number) judgement.Legal one other
+judgement-one held tree trace (judgement.BadLine number) (judgement.Illegal number' rule) one other = judged-one held tree trace (judgement.BadLine number) (judgement.Illegal number' rule) one other
+judgement-one held tree trace judgement.Legal judgement.NotBuilt one other = absurd (other one.arch one.is_thin)
+judgement-one held tree trace judgement.Legal (judgement.BadLine number) one other = judged-one held tree trace judgement.Legal (judgement.BadLine number) one other
+judgement-one held tree trace judgement.Legal judgement.Legal one other = refl
+judgement-one held tree trace judgement.Legal (judgement.Illegal number rule) one other = judged-one held tree trace judgement.Legal (judgement.Illegal number rule) one other
+judgement-one held tree trace (judgement.Illegal number rule) judgement.NotBuilt one other = absurd (other one.arch one.is_thin)
+judgement-one held tree trace (judgement.Illegal number rule) (judgement.BadLine number') one other = judged-one held tree trace (judgement.Illegal number rule) (judgement.BadLine number') one other
+judgement-one held tree trace (judgement.Illegal number rule) judgement.Legal one other = judged-one held tree trace (judgement.Illegal number rule) judgement.Legal one other
+judgement-one held tree trace (judgement.Illegal number rule) (judgement.Illegal number' rule') one other = judged-one held tree trace (judgement.Illegal number rule) (judgement.Illegal number' rule') one other
 
-judgement-one : (held : List ℕ → Option (List ℕ)) (model trace : List ℕ) (found found' : Judgement) →
-    IsJudged held model trace found → IsJudged held model trace found' → found ≡ found'
-judgement-one held model trace judgement.NotBuilt judgement.NotBuilt one other = refl
-judgement-one held model trace judgement.NotBuilt (judgement.BadLine number) one other = absurd (not-both held model trace (judgement.BadLine number) one other)
-judgement-one held model trace judgement.NotBuilt judgement.Legal one other = absurd (not-both held model trace judgement.Legal one other)
-judgement-one held model trace judgement.NotBuilt (judgement.Illegal number rule) one other = absurd (not-both held model trace (judgement.Illegal number rule) one other)
-judgement-one held model trace (judgement.BadLine number) judgement.NotBuilt one other = absurd (not-both held model trace (judgement.BadLine number) other one)
-judgement-one held model trace (judgement.BadLine number) (judgement.BadLine number') one other = judged-one held model trace (judgement.BadLine number) (judgement.BadLine number') one other
-judgement-one held model trace (judgement.BadLine number) judgement.Legal one other = judged-one held model trace (judgement.BadLine number) judgement.Legal one other
-judgement-one held model trace (judgement.BadLine number) (judgement.Illegal number' rule) one other = judged-one held model trace (judgement.BadLine number) (judgement.Illegal number' rule) one other
-judgement-one held model trace judgement.Legal judgement.NotBuilt one other = absurd (not-both held model trace judgement.Legal other one)
-judgement-one held model trace judgement.Legal (judgement.BadLine number) one other = judged-one held model trace judgement.Legal (judgement.BadLine number) one other
-judgement-one held model trace judgement.Legal judgement.Legal one other = refl
-judgement-one held model trace judgement.Legal (judgement.Illegal number rule) one other = judged-one held model trace judgement.Legal (judgement.Illegal number rule) one other
-judgement-one held model trace (judgement.Illegal number rule) judgement.NotBuilt one other = absurd (not-both held model trace (judgement.Illegal number rule) other one)
-judgement-one held model trace (judgement.Illegal number rule) (judgement.BadLine number') one other = judged-one held model trace (judgement.Illegal number rule) (judgement.BadLine number') one other
-judgement-one held model trace (judgement.Illegal number rule) judgement.Legal one other = judged-one held model trace (judgement.Illegal number rule) judgement.Legal one other
-judgement-one held model trace (judgement.Illegal number rule) (judgement.Illegal number' rule') one other = judged-one held model trace (judgement.Illegal number rule) (judgement.Illegal number' rule') one other
+-- a file is one model, or refused for one cause
+model-one : (held : List ℕ → Option (List ℕ)) (model : List ℕ) (Tells : Package → Report → Type 0) → ((p : Package) (r s : Report) → Tells p r → Tells p s → r ≡ s) →
+    (r s : Report) → OnModel held model Tells r → OnModel held model Tells s → r ≡ s
+model-one held model Tells one r s (inl h) (inl k) =
+    let bytes = same_Some k.bytes h.bytes (sym k.model_held ∙ h.model_held) in
+    let refusal = h.rejected.only k.refusal (subst (λ (b : List ℕ). IsRefusedAs SpellsPackage b k.refusal) bytes k.rejected.refused) in
+    h.told ∙ ap (λ (x : Refusal). report_of (refused model x)) (sym refusal) ∙ sym k.told
+model-one held model Tells one r s (inl h) (inr k) =
+    absurd (h.rejected.no_text k.tree (subst (λ (b : List ℕ). IsTextOf SpellsPackage b k.tree) (same_Some k.bytes h.bytes (sym k.model_held ∙ h.model_held)) k.accepted.text))
+model-one held model Tells one r s (inr h) (inl k) =
+    absurd (k.rejected.no_text h.tree (subst (λ (b : List ℕ). IsTextOf SpellsPackage b h.tree) (same_Some h.bytes k.bytes (sym h.model_held ∙ k.model_held)) h.accepted.text))
+model-one held model Tells one r s (inr h) (inr k) =
+    let bytes = same_Some k.bytes h.bytes (sym k.model_held ∙ h.model_held) in
+    let tree = h.accepted.only k.tree (subst (λ (b : List ℕ). IsTextOf SpellsPackage b k.tree) bytes k.accepted.text) in
+    one h.tree r s h.tells (subst (λ (p : Package). Tells p s) tree k.tells)
+
+judge-one : (held : List ℕ → Option (List ℕ)) (model trace : List ℕ) (p : Package) (r s : Report) → JudgeTells held model trace p r → JudgeTells held model trace p s → r ≡ s
+judge-one held model trace p r s h k =
+    h.told ∙ ap (λ (found : Judgement). told_of model trace found) (judgement-one held p trace h.found k.found h.judged k.judged) ∙ sym k.told
 
 -- there is one output
 pub output-one : OutputIsOne
-output-one held (judge model trace) one other gives gives' =
-    gives.told ∙ ap (λ (found : Judgement). told_of model trace found) (judgement-one held model trace gives.found gives'.found gives.judged gives'.judged) ∙ sym gives'.told
+output-one held (judge model trace) one other gives gives' = model-one held model (JudgeTells held model trace) (judge-one held model trace) one other gives gives'
+output-one held (tidy model) one other gives gives' = model-one held model IsTidied (λ p r s h k. h ∙ sym k) one other gives gives'

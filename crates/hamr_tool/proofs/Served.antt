@@ -1,18 +1,28 @@
 -- What is answered where the files are held and no fault is counted.
-use Rattle.std.proofs.Common.{◌≡◌, ℕ, List, Option, None, IsSome, ap, sym, ◌∙◌, subst}
+use Rattle.std.proofs.Common.{◌≡◌, ℕ, List, length, Option, Some, None, IsSome, ap, sym, ◌∙◌, subst, arith, inl, inr}
 use Rattle.hamr_tool.specs.declared.status.Status.{Status}
 use Rattle.hamr_tool.specs.declared.status.Status.TheVariants as status
 use Rattle.hamr_tool.specs.declared.report.Report.{Report}
 use Rattle.hamr_tool.specs.declared.judgement.Judgement.{Judgement}
 use Rattle.hamr_tool.specs.declared.judgement.Judgement.TheVariants as judgement
 use Rattle.hamr_tool.specs.Answer.{Gives, Accepts, IsForContent, IsForAbsence, IsForFault, CausedAs, Sent, SinkFailed, IsWhole, IsAnswer, IsOutput, OrNoMemory, IsSuccessOrNoMemory}
-use Rattle.hamr_tool.specs.Command.{Command, judge, IsRow}
-use Rattle.hamr_tool.specs.Judge.{IsJudged, AreAccepted, told_of}
+use Rattle.hamr_tool.specs.Command.{Command, judge, tidy, IsRow}
+use Rattle.std.proofs.lemmas.Option.{same_Some}
+use Rattle.aadl_tree.specs.declared.package.Package.{Package}
+use Rattle.aadl_parse.specs.Grammar.{SpellsPackage}
+use Rattle.aadl_parse.specs.Refusals.{IsTextOf}
+use Rattle.hamr_tool.specs.Judge.{IsJudged, JudgeTells, AreAccepted, told_of}
+use Rattle.hamr_tool.specs.ModelFile.{OnModel, RefusesModel, TakesModel, HoldsPackage}
+use Rattle.hamr_tool.specs.Tidy.{IsTidied, tidied}
 use Rattle.hamr_tool.specs.Outside.{Seen, Serves}
 
 -- the words are the row of one command
 row-one : (asked : List (List ℕ)) (one other : Command) → IsRow asked one → IsRow asked other → other ≡ one
 row-one asked (judge model trace) (judge model' trace') one other =
+    let same = sym one.row ∙ other.row in cc
+row-one asked (judge model trace) (tidy model') one other = absurd (omega (arith, ap (λ (ws : List (List ℕ)). length ws) (sym one.row ∙ other.row)))
+row-one asked (tidy model) (judge model' trace') one other = absurd (omega (arith, ap (λ (ws : List (List ℕ)). length ws) (sym one.row ∙ other.row)))
+row-one asked (tidy model) (tidy model') one other =
     let same = sym one.row ∙ other.row in cc
 
 content_output : (answer : Status) (s : Seen) (asked : List (List ℕ)) (out : Sent) (command : Command) (whole : IsWhole s asked out answer) →
@@ -61,29 +71,41 @@ answer_complete status.ReadFault s asked out command whole row serves working =
 answer_complete status.WriteFault s asked out command cut row serves working = absurd (working cut.failed)
 answer_complete status.NoMemory s asked out command quiet row serves working = tt
 
+-- the package in the file is the one that is read there
+same-package : (held : List ℕ → Option (List ℕ)) (model : List ℕ) (Tells : Package → Report → Type 0) (report : Report) (p : Package) → HoldsPackage held model p → (t : TakesModel held model Tells report) → p ≡ t.tree
+same-package held model Tells report p holds takes =
+    takes.accepted.only p (subst (λ (b : List ℕ). IsTextOf SpellsPackage b p) (same_Some holds.bytes takes.bytes (sym holds.model_held ∙ takes.model_held)) holds.is_text)
+
+not-refused : (held : List ℕ → Option (List ℕ)) (model : List ℕ) (report : Report) (p : Package) → HoldsPackage held model p → RefusesModel held model report → ⊥
+not-refused held model report p holds refuses =
+    refuses.rejected.no_text p (subst (λ (b : List ℕ). IsTextOf SpellsPackage b p) (same_Some holds.bytes refuses.bytes (sym holds.model_held ∙ refuses.model_held)) holds.is_text)
+
 -- two accepted files are judged by the rules
-judged-accepted : (held : List ℕ → Option (List ℕ)) (model trace : List ℕ) (found : Judgement) →
-    IsJudged held model trace found → AreAccepted held model trace → IsSuccessOrNoMemory (told_of model trace found).status
-judged-accepted held model trace judgement.NotBuilt judged files =
-    let same = sym files.model_held ∙ judged.model_held in
-    let bytes : files.bytes ≡ judged.bytes = cc in
-    judged.none files.arch (rw (← bytes) files.is_model)
-judged-accepted held model trace (judgement.BadLine number) judged files =
-    let same = sym files.model_held ∙ judged.model_held in
-    let bytes : files.bytes ≡ judged.bytes = cc in
-    let arch = judged.only files.arch (rw (← bytes) files.is_model) in
+judged-accepted : (held : List ℕ → Option (List ℕ)) (model trace : List ℕ) (tree : Package) (found : Judgement) (files : AreAccepted held model trace) → files.tree ≡ tree →
+    IsJudged held tree trace found → IsSuccessOrNoMemory (told_of model trace found).status
+judged-accepted held model trace tree judgement.NotBuilt files same judged = judged files.arch (rw (← same) files.is_thin)
+judged-accepted held model trace tree (judgement.BadLine number) files same judged =
+    let arch = judged.only files.arch (rw (← same) files.is_thin) in
     let same_trace = sym files.trace_held ∙ judged.judged.trace_held in
     let trace_bytes : files.trace_bytes ≡ judged.judged.bytes = cc in
     judged.judged.judged.none files.lines (rw (← trace_bytes, ← arch) files.is_trace)
-judged-accepted held model trace judgement.Legal judged files = tt
-judged-accepted held model trace (judgement.Illegal number rule) judged files = tt
+judged-accepted held model trace tree judgement.Legal files same judged = tt
+judged-accepted held model trace tree (judgement.Illegal number rule) files same judged = tt
+
+-- the output of a command whose files are accepted
+given-success : (held : List ℕ → Option (List ℕ)) (command : Command) (report : Report) → Gives held command report → Accepts held command → IsSuccessOrNoMemory report.status
+given-success held (judge model trace) report (inl refuses) files = absurd (not-refused held model report files.tree files.is_model refuses)
+given-success held (judge model trace) report (inr takes) files =
+    let tells = takes.tells in
+    subst (λ (r : Report). IsSuccessOrNoMemory r.status) (sym tells.told)
+    (judged-accepted held model trace takes.tree tells.found files (same-package held model (JudgeTells held model trace) report files.tree files.is_model takes) tells.judged)
+given-success held (tidy model) report (inl refuses) files = absurd (not-refused held model report files.0 files.1 refuses)
+given-success held (tidy model) report (inr takes) files = subst (λ (r : Report). IsSuccessOrNoMemory r.status) (sym takes.tells) tt
 
 accepted-success : (answer : Status) (held : List ℕ → Option (List ℕ)) (command : Command) (out : Sent) →
     IsOutput held command out answer → Accepts held command → IsSuccessOrNoMemory answer
-accepted-success answer held (judge model trace) out output files =
-    let status : (told_of model trace output.gives.found).status ≡ answer =
-    sym (ap (λ (r : Report). r.status) output.gives.told) ∙ output.answered in
-    subst (λ (k : Status). IsSuccessOrNoMemory k) status (judged-accepted held model trace output.gives.found output.gives.judged files)
+accepted-success answer held command out output files =
+    subst (λ (k : Status). IsSuccessOrNoMemory k) output.answered (given-success held command output.report output.gives files)
 
 pub success : (answer : Status) (held : List ℕ → Option (List ℕ)) (command : Command) (out : Sent) →
     OrNoMemory answer (IsOutput held command out answer) → Accepts held command → IsSuccessOrNoMemory answer

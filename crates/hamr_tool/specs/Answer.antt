@@ -6,13 +6,17 @@ use Rattle.hamr_tool.specs.declared.status.Status.{Status}
 use Rattle.hamr_tool.specs.declared.status.Status.TheVariants as status
 use Rattle.hamr_tool.specs.declared.report.Report.{Report}
 use Rattle.hamr_tool.specs.Cause.{report_of, words, absent, read_fault}
-use Rattle.hamr_tool.specs.Command.{Command, judge, IsRow, IsNoRow}
+use Rattle.hamr_tool.specs.Command.{Command, judge, tidy, IsRow, IsNoRow}
 use Rattle.hamr_tool.specs.Outside.{Seen, WasAbsent, FaultRose, Names}
-use Rattle.hamr_tool.specs.Judge.{JudgeGives, AreAccepted}
+use Rattle.aadl_tree.specs.declared.package.Package.{Package}
+use Rattle.hamr_tool.specs.Judge.{JudgeTells, AreAccepted}
+use Rattle.hamr_tool.specs.ModelFile.{OnModel, HoldsPackage}
+use Rattle.hamr_tool.specs.Tidy.{IsTidied}
 
 -- the output of each command, by the bytes of the files that it names
 abbrev pub Gives : (List ℕ → Option (List ℕ)) → Command → Report → Type 0
-Gives held (judge model trace) report = JudgeGives held model trace report
+Gives held (judge model trace) report = OnModel held model (JudgeTells held model trace) report
+Gives held (tidy model) report = OnModel held model IsTidied report
 
 -- what the files hold decides the output
 abbrev pub OutputIsOne : Type 0
@@ -21,6 +25,7 @@ OutputIsOne = (held : List ℕ → Option (List ℕ)) (command : Command) (one o
 -- the files that the command reads are accepted
 abbrev pub Accepts : (List ℕ → Option (List ℕ)) → Command → Type 0
 Accepts held (judge model trace) = AreAccepted held model trace
+Accepts held (tidy model) = (tree : Package) × HoldsPackage held model tree
 
 -- the words are no row
 pub record IsForWords (asked : List (List ℕ)) (report : Report) : Type 0 where

@@ -6,18 +6,22 @@ use Rattle.std.specs.Prelude.{IsUtf8}
 -- a command, with the words behind its name
 pub data Command : Type 0 where
   judge : List ℕ → List ℕ → Command
+  tidy : List ℕ → Command
 
 -- the first word of the row
 abbrev pub name_of : Command → List ℕ
 name_of (judge model trace) = codes "judge"
+name_of (tidy model) = codes "tidy"
 
 -- the other words of the row
 abbrev pub arguments_of : Command → List (List ℕ)
 arguments_of (judge model trace) = model ∷ trace ∷ []
+arguments_of (tidy model) = model ∷ []
 
 -- the files that the words name, in the order in which they are read
 abbrev pub files_of : Command → List (List ℕ)
 files_of (judge model trace) = model ∷ trace ∷ []
+files_of (tidy model) = model ∷ []
 
 -- the words are the row of the command, and are text
 pub record IsRow (words : List (List ℕ)) (command : Command) : Type 0 where

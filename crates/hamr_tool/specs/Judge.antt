@@ -1,4 +1,4 @@
--- What `judge MODEL TRACE` prints, by the bytes of the two files.
+-- What `judge MODEL TRACE` prints of a model, by the bytes of the trace.
 use Rattle.std.specs.Prelude.{◌≡◌, ℕ, List, [], ◌∷◌, ◌++◌, codes, map, Option, Some, Result, Ok, Err}
 use Rattle.std.specs.Fmt.{decimal}
 use Rattle.arch_model.specs.declared.parts.ArchParts.{ArchParts}
@@ -17,7 +17,9 @@ use Rattle.hamr_tool.specs.declared.trace.fault.TraceFault.{TraceFault}
 use Rattle.hamr_tool.specs.declared.trace.fault.TraceFault.TheVariants as trace_fault
 use Rattle.hamr_tool.specs.declared.trace.line.Line.{Line}
 use Rattle.hamr_tool.specs.Cause.{report_of, refused, not_built, bad_line}
-use Rattle.hamr_tool.specs.Model.{IsModelOf}
+use Rattle.aadl_tree.specs.declared.package.Package.{Package}
+use Rattle.hamr_tool.specs.ModelFile.{HoldsPackage}
+use Rattle.hamr_tool.specs.Package.{IsThinPackage}
 use Rattle.hamr_tool.specs.Trace.{IsTraceOf, IsFirstBadLine}
 
 abbrev pub events_of : List Line → List Event
@@ -65,33 +67,25 @@ abbrev pub UnreadAs : TraceFault → Result Judgement NoMemory → Type 0
 UnreadAs (trace_fault.BadLine number) answer = answer ≡ Ok (judgement.BadLine number)
 UnreadAs trace_fault.NoMemory answer = answer ≡ Err (record {})
 
--- the model's bytes are those of no model that this version reads
-pub record IsNotBuilt (held : List ℕ → Option (List ℕ)) (model : List ℕ) : Type 0 where
-  pub bytes : List ℕ
-  pub model_held : held model ≡ Some bytes
-  pub none : (arch : ArchParts) → IsModelOf bytes arch → ⊥
-
 -- the trace in the file is judged
 pub record IsJudgedFile (held : List ℕ → Option (List ℕ)) (arch : ArchParts) (trace : List ℕ) (found : Judgement) : Type 0 where
   pub bytes : List ℕ
   pub trace_held : held trace ≡ Some bytes
   pub judged : IsJudgedTrace arch bytes found
 
--- the model is that of one architecture, and the trace is judged by it
-pub record IsJudgedBy (held : List ℕ → Option (List ℕ)) (model trace : List ℕ) (found : Judgement) : Type 0 where
-  pub bytes : List ℕ
-  pub model_held : held model ≡ Some bytes
+-- the package is that of one architecture, and the trace is judged by it
+pub record IsJudgedBy (held : List ℕ → Option (List ℕ)) (tree : Package) (trace : List ℕ) (found : Judgement) : Type 0 where
   pub arch : ArchParts
-  pub is_model : IsModelOf bytes arch
-  pub only : (other : ArchParts) → IsModelOf bytes other → other ≡ arch
+  pub is_thin : IsThinPackage tree arch
+  pub only : (other : ArchParts) → IsThinPackage tree other → other ≡ arch
   pub judged : IsJudgedFile held arch trace found
 
--- what the two files are
-abbrev pub IsJudged : (List ℕ → Option (List ℕ)) → List ℕ → List ℕ → Judgement → Type 0
-IsJudged held model trace judgement.NotBuilt = IsNotBuilt held model
-IsJudged held model trace (judgement.BadLine number) = IsJudgedBy held model trace (judgement.BadLine number)
-IsJudged held model trace judgement.Legal = IsJudgedBy held model trace judgement.Legal
-IsJudged held model trace (judgement.Illegal number rule) = IsJudgedBy held model trace (judgement.Illegal number rule)
+-- what the package and the trace are
+abbrev pub IsJudged : (List ℕ → Option (List ℕ)) → Package → List ℕ → Judgement → Type 0
+IsJudged held tree trace judgement.NotBuilt = (arch : ArchParts) → IsThinPackage tree arch → ⊥
+IsJudged held tree trace (judgement.BadLine number) = IsJudgedBy held tree trace (judgement.BadLine number)
+IsJudged held tree trace judgement.Legal = IsJudgedBy held tree trace judgement.Legal
+IsJudged held tree trace (judgement.Illegal number rule) = IsJudgedBy held tree trace (judgement.Illegal number rule)
 
 abbrev pub legal_report : Report
 legal_report = record { text = codes "legal" ++ 10 ∷ []; status = status.Done }
@@ -106,18 +100,18 @@ told_of model trace (judgement.BadLine number) = report_of (refused trace (bad_l
 told_of model trace judgement.Legal = legal_report
 told_of model trace (judgement.Illegal number rule) = illegal_report number rule
 
--- the output of the command
-pub record JudgeGives (held : List ℕ → Option (List ℕ)) (model trace : List ℕ) (report : Report) : Type 0 where
+-- what is told of a model and the trace in the file
+pub record JudgeTells (held : List ℕ → Option (List ℕ)) (model trace : List ℕ) (tree : Package) (report : Report) : Type 0 where
   pub found : Judgement
-  pub judged : IsJudged held model trace found
+  pub judged : IsJudged held tree trace found
   pub told : report ≡ told_of model trace found
 
--- both files are accepted: the one is a model, and the other a trace of it
+-- both files are accepted: the one is a thin model, and the other a trace of it
 pub record AreAccepted (held : List ℕ → Option (List ℕ)) (model trace : List ℕ) : Type 0 where
-  pub bytes : List ℕ
-  pub model_held : held model ≡ Some bytes
+  pub tree : Package
+  pub is_model : HoldsPackage held model tree
   pub arch : ArchParts
-  pub is_model : IsModelOf bytes arch
+  pub is_thin : IsThinPackage tree arch
   pub trace_bytes : List ℕ
   pub trace_held : held trace ≡ Some trace_bytes
   pub lines : List Line

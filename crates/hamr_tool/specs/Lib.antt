@@ -5,6 +5,7 @@ pub mod Command
 pub mod Instance
 pub mod Judge
 pub mod Model
+pub mod ModelFile
 pub mod Names
 pub mod Outside
 pub mod Package
@@ -13,6 +14,7 @@ pub mod Reading
 pub mod Stop
 pub mod Symbols
 pub mod Thin
+pub mod Tidy
 pub mod Tokens
 pub mod Trace
 pub mod TraceFault

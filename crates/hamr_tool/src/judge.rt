@@ -1,38 +1,38 @@
-//! The command `judge MODEL TRACE`.
+//! The command `judge MODEL TRACE`, once the model is read.
 
 ghost use Rattle.std.specs.Prelude.{◌≡◌, List, ℕ, Some, true, IfOk};
 ghost use Rattle.hw_io.specs.Count.{NeverFalls};
-ghost use Rattle.hamr_tool.specs.Command.{judge as asked};
 ghost use Rattle.hamr_tool.specs.Judge.{IsJudged, IsJudgedFile, IsJudgedTrace, UnreadAs};
 ghost use Rattle.hamr_tool.specs.Outside.{seen};
-ghost use Rattle.hamr_tool.specs.Stop.{OnStopped, IsStopped, IsOutside};
+ghost use Rattle.hamr_tool.specs.Stop.{OnStopped, IsOutside};
 
 use crate::files::{Stop, read_file};
 use crate::judgement::Judgement;
-use crate::thin::read_model;
+use crate::package::read_package;
 use crate::trace::{TraceFault, read_trace};
 use crate::verdict::verdict;
+use aadl_tree::Package;
 use arch_model::Arch;
 use hw_io::Store;
 use hw_text::NoMemory;
 use std::alloc::Global;
 
-/// What the two files are. The trace is read only once the model is.
+/// What a model and the trace in a file are. The trace is read only where the model is one that
+/// this version judges by.
 pub fn judge<S: Store>(
     alloc: Global,
     store: &mut S,
-    model: &str,
+    tree: &Package,
     trace: &str,
 ) -> Result<Judgement, Stop>
-    ensures judged { IfOk result (λ found. S.tells store.old ≡ true → IsJudged (S.held store.old) model.now trace.now found) }
-    ensures stopped { OnStopped result (λ report. IsStopped (seen S.tells S.held S.read_faults S.absences store.old store.new) (asked model.now trace.now) report) }
+    ensures judged { IfOk result (λ found. S.tells store.old ≡ true → IsJudged (S.held store.old) tree.now trace.now found) }
+    ensures stopped { OnStopped result (λ report. IsOutside (seen S.tells S.held S.read_faults S.absences store.old store.new) trace.now report) }
     ensures tells { S.tells store.new ≡ S.tells store.old }
     ensures kept { (name : List ℕ) → S.held store.new name ≡ S.held store.old name }
     ensures read_faults { NeverFalls (S.read_faults store.old) (S.read_faults store.new) }
     ensures absences { NeverFalls (S.absences store.old) (S.absences store.new) }
 {
-    let bytes = read_file(alloc, store, model)?;
-    match read_model(alloc, bytes.rows())? {
+    match read_package(alloc, tree)? {
         Some(arch) => judge_by(alloc, store, &arch, trace),
         None => Ok(Judgement::NotBuilt),
     }

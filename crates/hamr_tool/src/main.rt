@@ -7,10 +7,14 @@ mod files;
 mod judge;
 mod judgement;
 mod laws;
+mod model_file;
+mod outputs;
 mod package;
 mod report;
+
 mod status;
 mod thin;
+mod tidy;
 mod top;
 mod trace;
 mod verdict;

@@ -10,7 +10,7 @@ ghost use Rattle.hamr_tool.specs.Stop.{OnStopped, IsStopped};
 use crate::cause::refused_words;
 use crate::command::Command;
 use crate::files::Stop;
-use crate::judge::judge;
+use crate::outputs::{run_judge, run_tidy};
 use crate::{Report, Status};
 use hw_io::{Sink, Store, WriteFault, write_all};
 use hw_text::{NoMemory, WordList};
@@ -93,9 +93,7 @@ fn run<S: Store>(alloc: Global, command: Command<'_>, store: &mut S) -> Result<R
     ensures kept { (name : List ℕ) → S.held store.new name ≡ S.held store.old name }
 {
     match command {
-        Command::Judge { model, trace } => {
-            let found = judge(alloc, store, model, trace)?;
-            Ok(found.report(alloc, model, trace)?)
-        }
+        Command::Judge { model, trace } => run_judge(alloc, store, model, trace),
+        Command::Tidy { model } => run_tidy(alloc, store, model),
     }
 }
