@@ -7,6 +7,8 @@ pub mod Judge
 pub mod Model
 pub mod Names
 pub mod Outside
+pub mod Package
+pub mod Parts
 pub mod Reading
 pub mod Stop
 pub mod Symbols
@@ -19,3 +21,4 @@ pub mod TracePort
 pub mod TraceTests
 pub mod TraceText
 pub mod TraceWord
+pub mod Tree

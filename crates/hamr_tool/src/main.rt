@@ -7,6 +7,7 @@ mod files;
 mod judge;
 mod judgement;
 mod laws;
+mod package;
 mod report;
 mod status;
 mod thin;

@@ -1,18 +1,18 @@
 //! The reader of thin models.
 
 mod blank;
-mod checks;
+pub mod checks;
 mod class;
-mod connection;
-mod device;
-mod feature;
-mod heading;
+pub mod connection;
+pub mod device;
+pub mod feature;
+pub mod heading;
 mod instance;
 mod lexer;
 mod links;
-mod model;
+pub mod model;
 mod name_set;
-mod subcomponent;
+pub mod subcomponent;
 mod symbol;
 mod token;
 
@@ -65,7 +65,7 @@ fn read_text(alloc: Global, bytes: &[u8]) -> Result<Option<ThinModel>, NoMemory>
 }
 
 /// The instance of a model, where its connections fit.
-fn instance_of(alloc: Global, model: &ThinModel) -> Result<Option<Arch>, NoMemory>
+pub fn instance_of(alloc: Global, model: &ThinModel) -> Result<Option<Arch>, NoMemory>
     requires { HasThinShape model.now }
     ensures found { IfOk result (λ found. IfSome found (λ arch. IsThinModel model.now × (arch ≡ instance_of model.now))) }
     ensures only { IsThinModel model.now → IfOk result (λ found. found ≡ Some (instance_of model.now)) }
