@@ -3,10 +3,8 @@ pub mod Causes
 pub mod DeclarationTrees
 pub mod Devices
 pub mod FeatureTrees
-pub mod Grammar
 pub mod Instances
 pub mod Judged
-pub mod Lexing
 pub mod LinkOrder
 pub mod Links
 pub mod MemberTrees
@@ -18,7 +16,6 @@ pub mod PartTrees
 pub mod Ports
 pub mod Runs
 pub mod Served
-pub mod Texts
 pub mod TraceActs
 pub mod TraceDomains
 pub mod TraceIntegers

@@ -20,7 +20,7 @@ use Rattle.hamr_tool.specs.declared.thin.subcomponent.Subcomponent.{Subcomponent
 use Rattle.hamr_tool.specs.declared.thin.connection.Tip.{Tip}
 use Rattle.hamr_tool.specs.declared.thin.connection.Connection.{Connection}
 use Rattle.hamr_tool.specs.declared.thin.model.ThinModel.{ThinModel}
-use Rattle.hamr_tool.specs.Symbols.{◌>>=◌}
+use Rattle.hamr_tool.specs.Steps.{◌>>=◌}
 
 -- the domain that a subcomponent is
 abbrev pub domain_of : Subcomponent → Pd

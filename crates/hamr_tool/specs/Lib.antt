@@ -10,12 +10,9 @@ pub mod Names
 pub mod Outside
 pub mod Package
 pub mod Parts
-pub mod Reading
+pub mod Steps
 pub mod Stop
-pub mod Symbols
-pub mod Thin
 pub mod Tidy
-pub mod Tokens
 pub mod Trace
 pub mod TraceFault
 pub mod TraceNumber

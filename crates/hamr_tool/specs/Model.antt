@@ -1,12 +1,9 @@
--- Thin models: which texts are models of connected devices, and of which architecture (this project's own, a part of SAE AS5506;
+-- Thin models: what is asked of a model of connected devices beyond its form (this project's own, a part of SAE AS5506;
 -- docs/formats/model.md).
 use Rattle.std.specs.Prelude.{◌≡◌, ◌≢◌, ◌≤◌, ℕ, true, List, ◌∷◌, ◌++◌, map, length, All, AllPairs, IsSome}
-use Rattle.arch_model.specs.declared.parts.ArchParts.{ArchParts}
 use Rattle.hamr_tool.specs.declared.thin.feature.Feature.{Feature}
 use Rattle.hamr_tool.specs.declared.thin.device.Device.{Device}
 use Rattle.hamr_tool.specs.declared.thin.model.ThinModel.{ThinModel}
-use Rattle.hamr_tool.specs.Tokens.{Lexes}
-use Rattle.hamr_tool.specs.Thin.{model_tokens}
 use Rattle.hamr_tool.specs.Names.{Differ}
 use Rattle.hamr_tool.specs.Instance.{size_of, is_declared, link_of, domains_of, ports_of, links_named, instance_of}
 
@@ -52,17 +49,3 @@ pub record IsThinModel (m : ThinModel) : Type 0 where
   pub shape : HasThinShape m
   pub connected : All (λ c. IsSome (link_of (domains_of m) (ports_of m) c)) m.connections
   pub one_sender : AllPairs (λ link other. link.to.0 ≢ other.to.0) (links_named m)
-
--- the tokens of the text spell the model
-unfoldable pub IsTextOf : List ℕ → ThinModel → Type 0
-IsTextOf bytes m = Lexes bytes (model_tokens m)
-
--- the text is this thin model
-pub record IsThin (bytes : List ℕ) (m : ThinModel) : Type 0 where
-  pub small : length bytes ≤ 1048576
-  pub spelled : IsTextOf bytes m
-  pub thin : IsThinModel m
-
--- the text is a thin model, of which this is the instance
-abbrev pub IsModelOf : List ℕ → ArchParts → Type 0
-IsModelOf bytes arch = (m : ThinModel) × IsThin bytes m × (arch ≡ instance_of m)

@@ -35,7 +35,7 @@ use Rattle.hamr_tool.specs.declared.thin.device.Device.{Device}
 use Rattle.hamr_tool.specs.declared.thin.subcomponent.Subcomponent.{Subcomponent as ThinSubcomponent}
 use Rattle.hamr_tool.specs.declared.thin.connection.Tip.{Tip}
 use Rattle.hamr_tool.specs.declared.thin.connection.Connection.{Connection as ThinConnection}
-use Rattle.hamr_tool.specs.Symbols.{◌>>=◌}
+use Rattle.hamr_tool.specs.Steps.{◌>>=◌}
 
 -- the first, where there are no others
 abbrev pub alone : {X Y : Type 0} → X → List Y → Option X

@@ -11,7 +11,6 @@ mod model_file;
 mod outputs;
 mod package;
 mod report;
-
 mod status;
 mod thin;
 mod tidy;

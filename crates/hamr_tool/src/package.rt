@@ -86,10 +86,3 @@ fn declared_model(
     };
     model_with(alloc, name, end_name, devices, system, implementation)
 }
-
-#[cfg(test)]
-mod members;
-#[cfg(test)]
-mod sketch;
-#[cfg(test)]
-mod tests;
