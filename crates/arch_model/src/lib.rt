@@ -11,7 +11,6 @@ mod pd;
 mod port;
 mod receivers;
 mod role;
-mod value;
 
 pub use arch::Arch;
 pub use id::{PdId, PortId};
@@ -22,7 +21,6 @@ pub use pd::{Pd, PdList};
 pub use port::{Port, PortList};
 pub use receivers::Receivers;
 pub use role::Role;
-pub use value::{Value, ValueList};
 
 #[cfg(test)]
 mod tests;

@@ -6,7 +6,7 @@ use Rattle.std.specs.Str.Parse.{AllDigits}
 use Rattle.std.proofs.lemmas.Bool.{and_from}
 use Rattle.std.proofs.lemmas.Bool.Decides.{nat_tests}
 use Rattle.std.proofs.lemmas.Fmt.{decimal_is_IsNumeral}
-use Rattle.hamr_tool.specs.declared.trace.spot.Spot.{Spot}
+use Rattle.hw_types.specs.declared.spot.Spot.{Spot}
 use Rattle.hamr_tool.specs.TraceText.{spot_text}
 use Rattle.hamr_tool.specs.TraceWord.{is_word_byte, IsWord}
 

@@ -8,7 +8,7 @@ use Rattle.arch_model.specs.declared.id.PdId.{PdId}
 use Rattle.arch_model.specs.declared.id.PortId.{PortId}
 use Rattle.rts_rules.specs.declared.event.What.{What}
 use Rattle.rts_rules.specs.declared.event.What.TheVariants as act
-use Rattle.hamr_tool.specs.declared.trace.spot.Spot.{Spot}
+use Rattle.hw_types.specs.declared.spot.Spot.{Spot}
 use Rattle.hamr_tool.specs.declared.trace.line.Line.{Line}
 
 abbrev pub domain_name : ArchParts → PdId → List ℕ

@@ -6,14 +6,12 @@ mod line;
 mod names;
 mod numbers;
 mod reader;
-mod spot;
 mod values;
 mod words;
 
 pub use fault::TraceFault;
 pub use line::{Line, Trace};
 pub use reader::read_trace;
-pub use spot::Spot;
 
 #[cfg(test)]
 mod tests;

@@ -3,7 +3,8 @@
 ghost use Rattle.std.specs.Prelude.{◌≡◌};
 
 use crate::Rule;
-use arch_model::{PdId, PortId, Value, ValueList};
+use arch_model::{PdId, PortId};
+use hw_types::{Value, ValueList};
 
 /// An event: a domain, and what it does (this project's own, after the run-time services of AADL).
 #[derive(Debug, Drop)]

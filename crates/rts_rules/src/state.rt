@@ -10,8 +10,9 @@ ghost use Rattle.rts_rules.specs.Rule.{rule_of};
 use crate::values::{is_integer_32, same_values};
 use crate::waiting::WaitingQueue;
 use crate::{Event, StepFault, What};
-use arch_model::{Arch, PdId, PortId, Role, Value, ValueList};
+use arch_model::{Arch, PdId, PortId, Role};
 use hw_text::{Duplicate, NoMemory, Rows};
+use hw_types::{Value, ValueList};
 use std::alloc::Global;
 use std::marker::Model;
 

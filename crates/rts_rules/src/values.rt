@@ -3,7 +3,7 @@
 ghost use Rattle.std.specs.Prelude.{◌≡◌, ◌↔◌, IsTrue};
 ghost use Rattle.arch_model.specs.Value.{IsInteger32};
 
-use arch_model::Value;
+use hw_types::Value;
 
 /// Whether two lists have the same values.
 pub fn same_values(one: &[Value], other: &[Value]) -> bool

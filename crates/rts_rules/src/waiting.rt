@@ -3,8 +3,8 @@
 ghost use Rattle.std.specs.Prelude.{◌≡◌, ◌≤◌, IfOk, [], length};
 ghost use Rattle.rts_rules.specs.Services.{appended, emptied};
 
-use arch_model::Value;
 use hw_text::NoMemory;
+use hw_types::Value;
 use std::alloc::Global;
 use std::marker::Model;
 

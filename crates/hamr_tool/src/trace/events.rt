@@ -11,7 +11,8 @@ use crate::trace::fault::LineFault;
 use crate::trace::names::read_port;
 use crate::trace::values::{read_list, read_value};
 use crate::trace::words::field;
-use arch_model::{Arch, PdId, PortId, Value, ValueList};
+use arch_model::{Arch, PdId, PortId};
+use hw_types::{Value, ValueList};
 use rts_rules::What;
 use std::alloc::Global;
 

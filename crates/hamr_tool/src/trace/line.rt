@@ -1,7 +1,7 @@
 //! A line of a trace.
 
-use crate::trace::Spot;
 use hw_text::Rows;
+use hw_types::Spot;
 use rts_rules::Event;
 
 /// An event, and where it stands.

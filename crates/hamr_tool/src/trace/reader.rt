@@ -2,7 +2,7 @@
 
 ghost use Rattle.std.specs.Prelude.{◌≡◌, ◌++◌, ◌∷◌, ℕ, List, IfOk, IfSome, IsSomeAnd, MatchResult};
 ghost use Rattle.hamr_tool.specs.declared.trace.line.Line.{Line};
-ghost use Rattle.hamr_tool.specs.declared.trace.spot.Spot.{Spot};
+ghost use Rattle.hw_types.specs.declared.spot.Spot.{Spot};
 ghost use Rattle.hamr_tool.specs.Trace.{FitsSpot, FitsTrace, IsTraceOf, IsFirstBadLine};
 ghost use Rattle.hamr_tool.specs.TraceFault.{IsMemory, OnBadLine, GivesTrace, GivesBadLine};
 ghost use Rattle.hamr_tool.specs.TraceText.{spot_text, line_text};
@@ -12,8 +12,9 @@ use crate::trace::fault::LineFault;
 use crate::trace::names::read_device;
 use crate::trace::numbers::number_of;
 use crate::trace::words::{behind, field};
-use crate::trace::{Line, Spot, Trace, TraceFault};
+use crate::trace::{Line, Trace, TraceFault};
 use arch_model::Arch;
+use hw_types::Spot;
 use rts_rules::Event;
 use std::alloc::Global;
 

@@ -9,7 +9,7 @@ ghost use Rattle.hamr_tool.specs.TraceWord.{EndsWord};
 use crate::trace::fault::LineFault;
 use crate::trace::numbers::integer_of;
 use crate::trace::words::{behind, split_word};
-use arch_model::{Value, ValueList};
+use hw_types::{Value, ValueList};
 use std::alloc::Global;
 
 /// What stands behind the comma and the space between two values.
