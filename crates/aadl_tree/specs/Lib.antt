@@ -1,0 +1,9 @@
+pub mod Canonical
+pub mod Classes
+pub mod Layout
+pub mod Marks
+pub mod Packages
+pub mod Text
+pub mod Tokens
+pub mod Values
+pub mod Words
