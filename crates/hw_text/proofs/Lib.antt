@@ -1,1 +1,4 @@
 pub mod NameLemmas
+pub mod Reading
+pub mod TextLemmas
+pub mod TokenLemmas

@@ -1,4 +1,9 @@
 pub mod Code
+pub mod Language
 pub mod Name
+pub mod Places
+pub mod Reading
 pub mod Refusal
+pub mod Text
+pub mod Tokens
 pub mod formers

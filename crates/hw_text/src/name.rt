@@ -1,9 +1,10 @@
 //! Names.
 
 ghost use Rattle.std.specs.Prelude.{◌≡◌, ◌↔◌, true, false, IfOk, OnOk, IsErrOf};
-ghost use Rattle.hw_text.specs.Name.{is_name, is_name_tail, is_spelled_as_name, is_letter, is_letter_or_digit, lowered};
+ghost use Rattle.hw_text.specs.Name.{is_name, is_name_tail, is_spelled_as_name, is_letter_or_digit, lowered};
 
 use crate::NoMemory;
+use crate::bytes::{is_digit, is_letter};
 use crate::reserved::is_reserved_word;
 use std::alloc::{AllocError, Global};
 use std::marker::Model;
@@ -94,16 +95,10 @@ impl Name {
     }
 }
 
-fn is_ascii_letter(byte: u8) -> bool
-    ensures { result ≡ is_letter byte }
-{
-    (b'A' <= byte && byte <= b'Z') || (b'a' <= byte && byte <= b'z')
-}
-
 fn is_word_byte(byte: u8) -> bool
     ensures { result ≡ is_letter_or_digit byte }
 {
-    is_ascii_letter(byte) || (b'0' <= byte && byte <= b'9')
+    is_letter(byte) || is_digit(byte)
 }
 
 /// Whether the bytes are spelled as a name, reserved or not.
@@ -113,7 +108,7 @@ fn is_spelled(bytes: &[u8]) -> bool
     let Some((&first, tail)) = bytes.split_first() else {
         return false;
     };
-    is_ascii_letter(first) && is_tail(tail)
+    is_letter(first) && is_tail(tail)
 }
 
 /// Whether the bytes may stand behind the first letter of a name.

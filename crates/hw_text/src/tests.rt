@@ -78,3 +78,42 @@ fn refusals_are_told_on_one_line(rt: HostRuntime) -> Result<(), Fail> {
     assert_eq!(rt; told.rows(), b"refused m 1:1 NotBuilt\n".as_slice());
     Ok(())
 }
+
+#[test]
+fn blanks_are_skipped(rt: HostRuntime) {
+    let rows: [(&[u8], usize); 5] = [
+        (b" \t\r\n", 0),
+        (b"-- a\n b -- c", 6),
+        (b"-- a\r b", 0),
+        (b"- -", 3),
+        (b"a -- b", 6),
+    ];
+    for (text, left) in rows {
+        assert_eq!(rt; skipped(text).len(), left);
+    }
+}
+
+#[test]
+fn numbers_are_below_two_to_the_127th(rt: HostRuntime) {
+    assert_eq!(rt; decimal(b"007_0"), Some(70));
+    assert!(rt; decimal(b"170141183460469231731687303715884105727").is_some());
+    assert!(rt; decimal(b"170141183460469231731687303715884105728").is_none());
+}
+
+#[test]
+fn places_count_on(rt: HostRuntime) {
+    let behind = place_of_rest(Place::START, b"a\nbc d", b"d");
+    assert_eq!(rt; behind, Place { line: 2, column: 4 });
+}
+
+#[test]
+fn a_cursor_passes_one_token_after_another(rt: HostRuntime) {
+    let tokens = [3_u64, 5];
+    let mut cursor = Cursor::new(&tokens);
+    assert_eq!(rt; cursor.left(), 2);
+    cursor.pass();
+    assert!(rt; matches!(cursor.peek(), Some(&5)));
+    cursor.pass();
+    cursor.pass();
+    assert!(rt; cursor.peek().is_none());
+}

@@ -1,0 +1,7 @@
+use Rattle.std.proofs.Common.{◌≡◌, ◌++◌, drop}
+use Rattle.std.specs.List.{flat_map}
+use Rattle.gumbo_parse.specs.Annex.{clause_text}
+use Rattle.gumbo_parse.proofs.annex.print_clauses.Given as goal
+
+abbrev pub invariant-loop-clause : goal.invariant-loop-clause
+invariant-loop-clause l = l.out ++ flat_map clause_text (drop l.clause-index l.clauses) ≡ l.initial.out ++ flat_map clause_text l.clauses

@@ -1,0 +1,214 @@
+//! The operators of expressions, and how tightly they bind.
+
+ghost use Rattle.std.specs.Prelude.{◌≡◌, ◌≤◌};
+ghost use Rattle.gumbo_parse.specs.Operators.{unary_level, binary_level, left_level, right_level, unary_of, binary_of, binary_of_mark, binary_text, quantifier_word, test_word};
+
+use crate::mark::Mark;
+use crate::token::Token;
+use crate::word::Word;
+
+/// An operator with one operand.
+#[derive(Clone, Copy, Debug, PartialEq, Eq)]
+pub enum UnaryOperator {
+    Not,
+    Minus,
+}
+
+/// An operator with two operands.
+#[derive(Clone, Copy, Debug, PartialEq, Eq)]
+pub enum BinaryOperator {
+    Implies,
+    Or,
+    And,
+    Equal,
+    NotEqual,
+    Less,
+    LessOrEqual,
+    Greater,
+    GreaterOrEqual,
+    Add,
+    Subtract,
+    Multiply,
+    Divide,
+    Remainder,
+}
+
+#[derive(Clone, Copy, Debug, PartialEq, Eq)]
+pub enum Quantifier {
+    ForAll,
+    Exists,
+}
+
+/// What is asked of a port alone.
+#[derive(Clone, Copy, Debug, PartialEq, Eq)]
+pub enum PortTest {
+    HasEvent,
+    NoSend,
+    MustSend,
+}
+
+impl UnaryOperator {
+    /// How tightly it binds, and its operand has to.
+    pub fn level(self) -> u8
+        ensures exact { result ≡ unary_level self }
+        ensures bound { result ≤ 8 }
+    {
+        match self {
+            UnaryOperator::Not => 3,
+            UnaryOperator::Minus => 7,
+        }
+    }
+
+    /// The operator that the token is before an operand.
+    pub fn of(token: &Token) -> Option<UnaryOperator>
+        ensures { result ≡ unary_of token.now }
+    {
+        match token {
+            Token::Word(Word::Not) | Token::Mark(Mark::Bang) => Some(UnaryOperator::Not),
+            Token::Mark(Mark::Minus) => Some(UnaryOperator::Minus),
+            _ => None,
+        }
+    }
+}
+
+impl BinaryOperator {
+    /// How tightly it binds.
+    pub fn level(self) -> u8
+        ensures exact { result ≡ binary_level self }
+        ensures bound { result ≤ 8 }
+    {
+        match self {
+            BinaryOperator::Implies => 0,
+            BinaryOperator::Or => 1,
+            BinaryOperator::And => 2,
+            BinaryOperator::Equal
+            | BinaryOperator::NotEqual
+            | BinaryOperator::Less
+            | BinaryOperator::LessOrEqual
+            | BinaryOperator::Greater
+            | BinaryOperator::GreaterOrEqual => 4,
+            BinaryOperator::Add | BinaryOperator::Subtract => 5,
+            BinaryOperator::Multiply | BinaryOperator::Divide | BinaryOperator::Remainder => 6,
+        }
+    }
+
+    /// How tightly its left operand has to bind.
+    pub fn left(self) -> u8
+        ensures exact { result ≡ left_level self }
+        ensures bound { result ≤ 8 }
+    {
+        match self {
+            BinaryOperator::Implies => 1,
+            BinaryOperator::Or => 1,
+            BinaryOperator::And => 2,
+            BinaryOperator::Equal
+            | BinaryOperator::NotEqual
+            | BinaryOperator::Less
+            | BinaryOperator::LessOrEqual
+            | BinaryOperator::Greater
+            | BinaryOperator::GreaterOrEqual => 5,
+            BinaryOperator::Add | BinaryOperator::Subtract => 5,
+            BinaryOperator::Multiply | BinaryOperator::Divide | BinaryOperator::Remainder => 6,
+        }
+    }
+
+    /// How tightly its right operand has to bind.
+    pub fn right(self) -> u8
+        ensures exact { result ≡ right_level self }
+        ensures bound { result ≤ 8 }
+    {
+        match self {
+            BinaryOperator::Implies => 0,
+            BinaryOperator::Or => 2,
+            BinaryOperator::And => 3,
+            BinaryOperator::Equal
+            | BinaryOperator::NotEqual
+            | BinaryOperator::Less
+            | BinaryOperator::LessOrEqual
+            | BinaryOperator::Greater
+            | BinaryOperator::GreaterOrEqual => 5,
+            BinaryOperator::Add | BinaryOperator::Subtract => 6,
+            BinaryOperator::Multiply | BinaryOperator::Divide | BinaryOperator::Remainder => 7,
+        }
+    }
+
+    /// The operator that the token is between two operands.
+    pub fn of(token: &Token) -> Option<BinaryOperator>
+        ensures { result ≡ binary_of token.now }
+    {
+        match token {
+            Token::Word(Word::Implies) => Some(BinaryOperator::Implies),
+            Token::Word(Word::Or) => Some(BinaryOperator::Or),
+            Token::Word(Word::And) => Some(BinaryOperator::And),
+            Token::Mark(mark) => BinaryOperator::of_mark(*mark),
+            _ => None,
+        }
+    }
+
+    fn of_mark(mark: Mark) -> Option<BinaryOperator>
+        ensures { result ≡ binary_of_mark mark }
+    {
+        match mark {
+            Mark::Equal => Some(BinaryOperator::Equal),
+            Mark::NotEqual => Some(BinaryOperator::NotEqual),
+            Mark::Less => Some(BinaryOperator::Less),
+            Mark::LessOrEqual => Some(BinaryOperator::LessOrEqual),
+            Mark::Greater => Some(BinaryOperator::Greater),
+            Mark::GreaterOrEqual => Some(BinaryOperator::GreaterOrEqual),
+            Mark::Plus => Some(BinaryOperator::Add),
+            Mark::Minus => Some(BinaryOperator::Subtract),
+            Mark::Star => Some(BinaryOperator::Multiply),
+            Mark::Slash => Some(BinaryOperator::Divide),
+            Mark::Percent => Some(BinaryOperator::Remainder),
+            Mark::Implication => Some(BinaryOperator::Implies),
+            Mark::Bar => Some(BinaryOperator::Or),
+            Mark::Ampersand => Some(BinaryOperator::And),
+            _ => None,
+        }
+    }
+
+    /// The word or mark that it is printed as.
+    pub fn text(self) -> &'static str
+        ensures { result.now ≡ binary_text self }
+    {
+        match self {
+            BinaryOperator::Implies => "implies",
+            BinaryOperator::Or => "or",
+            BinaryOperator::And => "and",
+            BinaryOperator::Equal => "==",
+            BinaryOperator::NotEqual => "!=",
+            BinaryOperator::Less => "<",
+            BinaryOperator::LessOrEqual => "<=",
+            BinaryOperator::Greater => ">",
+            BinaryOperator::GreaterOrEqual => ">=",
+            BinaryOperator::Add => "+",
+            BinaryOperator::Subtract => "-",
+            BinaryOperator::Multiply => "*",
+            BinaryOperator::Divide => "/",
+            BinaryOperator::Remainder => "%",
+        }
+    }
+}
+
+impl Quantifier {
+    pub fn word(self) -> Word
+        ensures { result ≡ quantifier_word self }
+    {
+        match self {
+            Quantifier::ForAll => Word::ForAll,
+            Quantifier::Exists => Word::Exists,
+        }
+    }
+}
+
+impl PortTest {
+    pub fn word(self) -> Word
+        ensures { result ≡ test_word self }
+    {
+        match self {
+            PortTest::HasEvent => Word::HasEvent,
+            PortTest::NoSend => Word::NoSend,
+            PortTest::MustSend => Word::MustSend,
+        }
+    }
+}
