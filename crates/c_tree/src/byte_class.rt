@@ -26,9 +26,7 @@ impl ByteClass {
             ByteClass::Zero => byte == b'0',
             ByteClass::Digit => is_digit(byte),
             ByteClass::HexDigit => {
-                is_digit(byte)
-                    || (b'a' <= byte && byte <= b'f')
-                    || (b'A' <= byte && byte <= b'F')
+                is_digit(byte) || (b'a' <= byte && byte <= b'f') || (b'A' <= byte && byte <= b'F')
             }
             ByteClass::BaseMark => byte == b'x',
             ByteClass::Unsigned => byte == b'u' || byte == b'U',

@@ -2,10 +2,9 @@
 
 ghost use Rattle.std.specs.Prelude.{◌≡◌, ◌++◌, map, OnOk};
 ghost use Rattle.std.specs.List.{flat_map};
-ghost use Rattle.c_tree.specs.Printing.{behind_comma, with_commas};
-ghost use Rattle.c_tree.specs.Expressions.{opening, closing, unary_sign, position_behind, base_text, expression_text, selector_text, lvalue_text, argument_text, call_text, right_text};
+ghost use Rattle.c_tree.specs.Expressions.{opening, closing, unary_sign, position_behind, base_text, expression_text, selector_text, lvalue_text};
 
-use crate::expression::{Argument, Base, Call, Expression, Lvalue, RightSide, Selector};
+use crate::expression::{Base, Expression, Lvalue, Selector};
 use crate::operator::UnaryOperator;
 use crate::print_type::print_truth;
 use hw_text::{NoMemory, TextBuf};
@@ -29,13 +28,17 @@ impl Expression {
             Expression::Truth { value, .. } => print_truth(out, *value),
             Expression::Value { lvalue, .. } => lvalue.print(out),
             Expression::Unary {
-                operator, operand, ..
+                operator,
+                operand,
+                ..
             } => {
                 print_sign(out, *operator, position)?;
                 operand.get().print(out, position_behind(*operator))
             }
             Expression::Cast {
-                target, operand, ..
+                target,
+                operand,
+                ..
             } => {
                 out.word(b"(")?;
                 out.word(target.spelling().as_bytes())?;
@@ -153,55 +156,5 @@ fn position_behind(operator: UnaryOperator) -> Position
     match operator {
         UnaryOperator::Minus => Position::BehindMinus,
         UnaryOperator::Not | UnaryOperator::Complement => Position::Operand,
-    }
-}
-
-impl RightSide {
-    pub fn print(&self, out: &mut TextBuf) -> Result<(), NoMemory>
-        ensures { OnOk result (out.new ≡ out.old ++ right_text self.now) }
-    {
-        match self {
-            RightSide::Call(call) => call.print(out),
-            RightSide::Value(value) => value.print(out, Position::Whole),
-        }
-    }
-}
-
-impl Call {
-    pub fn print(&self, out: &mut TextBuf) -> Result<(), NoMemory>
-        ensures { OnOk result (out.new ≡ out.old ++ call_text self.now) }
-    {
-        out.word(self.name.name.rows())?;
-        out.word(b"(")?;
-        print_arguments(out, self.arguments.rows())?;
-        out.word(b")")
-    }
-}
-
-fn print_arguments(out: &mut TextBuf, arguments: &[Argument]) -> Result<(), NoMemory>
-    ensures { OnOk result (out.new ≡ out.old ++ with_commas (map argument_text arguments.now)) }
-{
-    let Some((first, others)) = arguments.split_first() else {
-        return Ok(());
-    };
-    first.print(out)?;
-    for argument in others {
-        out.word(b", ")?;
-        argument.print(out)?;
-    }
-    Ok(())
-}
-
-impl Argument {
-    fn print(&self, out: &mut TextBuf) -> Result<(), NoMemory>
-        ensures { OnOk result (out.new ≡ out.old ++ argument_text self.now) }
-    {
-        match self {
-            Argument::Address(_, named) => {
-                out.word(b"&")?;
-                out.word(named.name.rows())
-            }
-            Argument::Value(value) => value.print(out, Position::Whole),
-        }
     }
 }

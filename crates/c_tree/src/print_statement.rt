@@ -1,12 +1,11 @@
 //! Printing statements.
 
-ghost use Rattle.std.specs.Prelude.{◌≡◌, ◌++◌, [], map, IfOk, OnOk};
+ghost use Rattle.std.specs.Prelude.{◌≡◌, ◌++◌, [], map, OnOk};
 ghost use Rattle.std.specs.List.{flat_map};
-ghost use Rattle.c_tree.specs.Statements.{deeper, line, all_lines, block_text, local_text, count_text, forever_text, else_text, otherwise_text, statement_text, branch_text};
+ghost use Rattle.c_tree.specs.Statements.{deeper, line, all_lines, block_text, forever_text, else_text, otherwise_text, statement_text, branch_text};
 
-use crate::integer_type::IntegerType;
-use crate::named::{Named, SignedLiteral};
-use crate::statement::{Branch, LocalValue, Otherwise, Statement};
+use crate::print_head::{deeper, print_count, print_forever};
+use crate::statement::{Branch, Otherwise, Statement};
 use hw_text::{NoMemory, TextBuf};
 use std::alloc::Global;
 
@@ -139,67 +138,6 @@ impl Otherwise {
                 print_block(alloc, out, body.rows(), margin)
             }
             Otherwise::Nothing => Ok(()),
-        }
-    }
-}
-
-/// Four spaces more.
-fn deeper(alloc: Global, margin: &[u8]) -> Result<TextBuf, NoMemory>
-    ensures { IfOk result (λ inner. inner ≡ deeper margin.now) }
-{
-    let mut inner = TextBuf::new(alloc);
-    inner.word(margin)?;
-    inner.word(b"    ")?;
-    Ok(inner)
-}
-
-/// Appends the head of a loop over numbers.
-fn print_count(
-    out: &mut TextBuf,
-    class: IntegerType,
-    name: &Named,
-    from: &SignedLiteral,
-    below: &SignedLiteral,
-) -> Result<(), NoMemory>
-    ensures { OnOk result (out.new ≡ out.old ++ count_text class name.now from.now below.now) }
-{
-    out.word(b"for (")?;
-    out.word(class.spelling().as_bytes())?;
-    out.word(b" ")?;
-    out.word(name.name.rows())?;
-    out.word(b" = ")?;
-    from.print(out)?;
-    out.word(b"; ")?;
-    out.word(name.name.rows())?;
-    out.word(b" < ")?;
-    below.print(out)?;
-    out.word(b"; ")?;
-    out.word(name.name.rows())?;
-    out.word(b"++)")
-}
-
-#[tactic(auto, unfolding(crate::specs::Statements::forever_text))]
-fn print_forever(out: &mut TextBuf) -> Result<(), NoMemory>
-    ensures { OnOk result (out.new ≡ out.old ++ forever_text) }
-{
-    out.word(b"for (;;)")
-}
-
-impl LocalValue {
-    fn print(&self, out: &mut TextBuf) -> Result<(), NoMemory>
-        ensures { OnOk result (out.new ≡ out.old ++ local_text self.now) }
-    {
-        match self {
-            LocalValue::ZeroArray(length) => {
-                out.word(b"[")?;
-                out.word(length.numeral.rows())?;
-                out.word(b"] = {0}")
-            }
-            LocalValue::Zero => out.word(b" = {0}"),
-            LocalValue::Given(value) => {
-                out.word(b" = ")?;
-                value.print(out)
-            }
         }
     }
 }

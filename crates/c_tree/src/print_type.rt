@@ -1,6 +1,8 @@
 //! Printing the types that declarations name, and what may stand behind a declared name.
 
-ghost use Rattle.std.specs.Prelude.{◌≡◌, ◌++◌, OnOk};
+ghost use Rattle.std.specs.Prelude.{◌≡◌, ◌++◌, [], codes, OnOk};
+ghost use Rattle.c_tree.specs.Items.{static_text};
+ghost use Rattle.c_tree.specs.Statements.{line};
 ghost use Rattle.c_tree.specs.Printing.{type_text, length_text, signed_text, declared_text, truth_text};
 
 use crate::named::{Literal, Named, SignedLiteral};
@@ -67,4 +69,22 @@ pub fn print_truth(out: &mut TextBuf, value: bool) -> Result<(), NoMemory>
     } else {
         out.word(b"false")
     }
+}
+
+pub fn print_static(out: &mut TextBuf, is_static: bool) -> Result<(), NoMemory>
+    ensures { OnOk result (out.new ≡ out.old ++ static_text is_static) }
+{
+    if is_static {
+        out.word(b"static ")
+    } else {
+        Ok(())
+    }
+}
+
+/// Appends what ends a declaration, and its line.
+pub fn end_line(out: &mut TextBuf) -> Result<(), NoMemory>
+    ensures { OnOk result (out.new ≡ out.old ++ line [] (codes ";")) }
+{
+    out.word(b";")?;
+    out.newline()
 }

@@ -2,7 +2,7 @@ use Rattle.std.proofs.Common.{◌≡◌, ◌++◌, drop, map}
 use Rattle.std.specs.List.{flat_map}
 use Rattle.c_tree.specs.Printing.{behind_comma}
 use Rattle.c_tree.specs.Items.{parameter_text}
-use Rattle.c_tree.proofs.print_item.print_parameters.Given as goal
+use Rattle.c_tree.proofs.print_function.print_parameters.Given as goal
 
 abbrev pub invariant-loop-parameter : goal.invariant-loop-parameter
 invariant-loop-parameter l =

@@ -1,7 +1,7 @@
 use Rattle.std.proofs.Common.{◌≡◌, ◌++◌, drop, map}
 use Rattle.std.specs.List.{flat_map}
 use Rattle.c_tree.specs.Items.{member_text}
-use Rattle.c_tree.proofs.print_item.print_members.Given as goal
+use Rattle.c_tree.proofs.print_typedef.print_members.Given as goal
 
 abbrev pub invariant-loop-member : goal.invariant-loop-member
 invariant-loop-member l =
