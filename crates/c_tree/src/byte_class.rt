@@ -1,8 +1,9 @@
 //! The bytes that literals are made of.
 
 ghost use Rattle.std.specs.Prelude.{◌≡◌, ◌<◌, ◌≤◌, true, length, drop};
-ghost use Rattle.hw_text.specs.Name.{is_digit};
 ghost use Rattle.c_tree.specs.Numerals.{is_in, begins_in, past_one, past_all, base, digit_value};
+
+use hw_text::is_digit;
 
 /// A class of bytes in literals.
 #[derive(Clone, Copy)]
@@ -79,12 +80,6 @@ impl ByteClass {
             _ => 10,
         }
     }
-}
-
-pub fn is_digit(byte: u8) -> bool
-    ensures { result ≡ is_digit byte }
-{
-    b'0' <= byte && byte <= b'9'
 }
 
 /// What a digit or a hex digit stands for.

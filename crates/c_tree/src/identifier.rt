@@ -2,12 +2,10 @@
 
 ghost use Rattle.std.specs.Prelude.{◌≡◌, true, IfOk, SomeIff};
 ghost use Rattle.std.specs.List.{list_all};
-ghost use Rattle.hw_text.specs.Name.{is_letter};
 ghost use Rattle.c_tree.specs.Words.{begins_name, continues_name, is_spelled_as_name, is_identifier};
 
-use crate::byte_class::is_digit;
 use crate::word::is_word;
-use hw_text::{ByteList, NoMemory};
+use hw_text::{ByteList, NoMemory, is_digit, is_letter};
 use std::alloc::Global;
 use std::marker::Model;
 
@@ -58,19 +56,15 @@ impl Identifier {
     }
 }
 
-fn is_letter(byte: u8) -> bool
-    ensures { result ≡ is_letter byte }
-{
-    (b'A' <= byte && byte <= b'Z') || (b'a' <= byte && byte <= b'z')
-}
-
-fn begins_name(byte: u8) -> bool
+/// Whether a name may begin with the byte.
+pub fn begins_name(byte: u8) -> bool
     ensures { result ≡ begins_name byte }
 {
     is_letter(byte) || byte == b'_'
 }
 
-fn continues_name(byte: u8) -> bool
+/// Whether the byte may stand in a name.
+pub fn continues_name(byte: u8) -> bool
     ensures { result ≡ continues_name byte }
 {
     is_letter(byte) || is_digit(byte) || byte == b'_'

@@ -24,7 +24,7 @@ mod unit;
 mod word;
 
 pub use expression::{Argument, Base, Call, Expression, Lvalue, RightSide, Selector};
-pub use identifier::Identifier;
+pub use identifier::{Identifier, begins_name, continues_name};
 pub use integer_type::IntegerType;
 pub use item::{
     Enumeration, External, Function, InitialValue, Item, Member, Parameter, Pointer, Prototype,
@@ -32,6 +32,7 @@ pub use item::{
 };
 pub use named::{Literal, Named, SignedLiteral};
 pub use numeral::Numeral;
+pub use numeral_text::past_numeral;
 pub use operator::{BinaryOperator, UnaryOperator};
 pub use statement::{Branch, LocalValue, Otherwise, Statement};
 pub use type_name::TypeName;

@@ -1,6 +1,6 @@
 //! Integer literals.
 
-ghost use Rattle.std.specs.Prelude.{◌≡◌, true, Some, IfOk, SomeIff};
+ghost use Rattle.std.specs.Prelude.{◌≡◌, true, false, Some, IfOk, IfNone, SomeIff};
 ghost use Rattle.c_tree.specs.Numerals.{is_numeral, numeral_value, numeral_type};
 
 use crate::integer_type::IntegerType;
@@ -31,7 +31,8 @@ impl Model for Numeral {
 impl Numeral {
     /// The literal that the bytes spell, where they spell one that a type holds.
     pub fn read(alloc: Global, bytes: &[u8]) -> Result<Option<Numeral>, NoMemory>
-        ensures { IfOk result (λ found. SomeIff found (is_numeral bytes.now ≡ true) bytes.now) }
+        ensures found { IfOk result (λ found. SomeIff found (is_numeral bytes.now ≡ true) bytes.now) }
+        ensures none { IfOk result (λ found. IfNone found (is_numeral bytes.now ≡ false)) }
     {
         let Some((value, class)) = read_numeral(bytes) else {
             return Ok(None);

@@ -1,0 +1,4 @@
+pub mod Blanks
+pub mod Keywords
+pub mod Marks
+pub mod Tokens
