@@ -11,3 +11,6 @@ pub use keyword::Keyword;
 pub use lexer::read_tokens;
 pub use mark::Mark;
 pub use token::Token;
+
+#[cfg(test)]
+mod tests;
