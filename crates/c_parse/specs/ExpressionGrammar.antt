@@ -93,7 +93,7 @@ mutual
   -- these tokens spell this expression where one of this level stands
   pub data SpellsExpression : Bool → ℕ → Expression → Tokens → Type 0 where
     chain : (full : Bool) (n : ℕ) (x : Expression) (os : List Operation) (us vs : Tokens) (e : Expression) (ts : Tokens) → n < prefix_level → e ≡ chained x os → ts ≡ us ++ vs → SpellsExpression full (n + 1) x us → SpellsOperations full n os vs → SpellsExpression full n e ts
-    prefix : (full : Bool) (e : Expression) (ts : Tokens) → SpellsPrefix full e ts → SpellsExpression full prefix_level e ts
+    prefix : (full : Bool) (n : ℕ) (e : Expression) (ts : Tokens) → n ≡ prefix_level → SpellsPrefix full e ts → SpellsExpression full n e ts
 
   -- { operator of the level, operand of the next one }
   pub data SpellsOperations : Bool → ℕ → List Operation → Tokens → Type 0 where

@@ -38,9 +38,12 @@ SpellsEnumeration =
     Made enumeration_of
     (Word keyword.Typedef ⋅ Word keyword.Enum ⋅ Sign mark.OpenBrace ⋅ Name ⋅ Each (BehindComma Name) ⋅ Sign mark.CloseBrace ⋅ Name ⋅ Sign mark.Semicolon)
 
+abbrev pub length_of : Place × (Literal × Place) → Literal
+length_of p = p.1.0
+
 -- [ "[" INT "]" ]
 abbrev pub SpellsLength : Option Literal → Tokens → Type 0
-SpellsLength = Maybe (Made (λ p. p.1.0) (Sign mark.OpenBracket ⋅ One literal_of ⋅ Sign mark.CloseBracket))
+SpellsLength = Maybe (Made length_of (Sign mark.OpenBracket ⋅ One literal_of ⋅ Sign mark.CloseBracket))
 
 abbrev pub member_of : TypeName × (Named × (Option Literal × Place)) → Member
 member_of p = record { class = p.0; name = p.1.0; length = p.1.1.0 }

@@ -1,5 +1,5 @@
 -- What tokens stand for in the grammar.
-use Rattle.std.specs.Prelude.{ℕ, ◌==◌, Bool, true, false, if◌then◌else◌, List, codes, Option, Some, None}
+use Rattle.std.specs.Prelude.{ℕ, ◌==◌, Bool, true, false, if◌then◌else◌, List, codes, Option, Some, None, is_some}
 use Rattle.std.specs.Str.{bytes_eq}
 use Rattle.hw_text.specs.declared.place.Place.{Place}
 use Rattle.hw_text.specs.declared.placed.Placed.{Placed}
@@ -35,6 +35,9 @@ mark_in m _ at = None
 abbrev pub mark_of : Mark → Placed Token → Option Place
 mark_of m t = mark_in m t.token t.place
 
+abbrev pub is_mark : Mark → Placed Token → Bool
+is_mark m t = is_some (mark_of m t)
+
 -- where this word stands
 abbrev pub keyword_in : Keyword → Token → Place → Option Place
 keyword_in w (token.Keyword v) at = found (bytes_eq (keyword_text v) (keyword_text w)) at
@@ -42,6 +45,9 @@ keyword_in w _ at = None
 
 abbrev pub keyword_of : Keyword → Placed Token → Option Place
 keyword_of w t = keyword_in w t.token t.place
+
+abbrev pub is_word : Keyword → Placed Token → Bool
+is_word w t = is_some (keyword_of w t)
 
 abbrev pub name_in : Token → Place → Option Named
 name_in (token.Name n) at = Some (record { name = n; place = at })
@@ -72,6 +78,9 @@ integer_in _ at = None
 
 abbrev pub integer_of : Placed Token → Option (Place × IntegerType)
 integer_of t = integer_in t.token t.place
+
+abbrev pub is_integer : Placed Token → Bool
+is_integer t = is_some (integer_of t)
 
 -- `true` or `false`, and where it stands
 abbrev pub truth_in : Token → Place → Option (Place × Bool)

@@ -3,9 +3,9 @@
 ghost use Rattle.std.specs.Prelude.{◌≡◌, Option, Some, IfOk};
 ghost use Rattle.hw_text.specs.declared.placed.Placed.{Placed};
 ghost use Rattle.hw_text.specs.Language.{One};
-ghost use Rattle.hw_text.specs.Reading.{Reads, Anything, ahead};
+ghost use Rattle.hw_text.specs.Reading.{Reads, Anything, ahead, begins};
 ghost use Rattle.c_parse.specs.declared.token.Token.{Token};
-ghost use Rattle.c_parse.specs.Values.{mark_of};
+ghost use Rattle.c_parse.specs.Values.{mark_of, is_mark};
 ghost use Rattle.c_parse.specs.ExpressionGrammar.{Sign};
 
 use crate::mark::Mark;
@@ -67,12 +67,22 @@ fn mark_of(mark: Mark, token: &Placed<Token>) -> Option<Place>
 }
 
 /// Where this mark stands, if it is ahead.
-pub fn mark_ahead(tokens: &Cursor<'_, Placed<Token>>, mark: Mark) -> Option<Place>
+fn mark_ahead(tokens: &Cursor<'_, Placed<Token>>, mark: Mark) -> Option<Place>
     ensures { result ≡ ahead (mark_of mark) tokens.now }
 {
     match tokens.peek() {
         Some(token) => mark_of(mark, token),
         None => None,
+    }
+}
+
+/// Whether this mark is ahead.
+pub fn stands(tokens: &Cursor<'_, Placed<Token>>, mark: Mark) -> bool
+    ensures { result ≡ begins (is_mark mark) tokens.now }
+{
+    match tokens.peek() {
+        Some(token) => mark_of(mark, token).is_some(),
+        None => false,
     }
 }
 
