@@ -32,14 +32,6 @@ impl Make {
         Ok(Literal { numeral, place: AT })
     }
 
-    pub fn signed(self, negative: bool, text: &[u8]) -> Result<SignedLiteral, Fail> {
-        Ok(SignedLiteral {
-            start: AT,
-            negative,
-            literal: self.literal(text)?,
-        })
-    }
-
     pub fn number(self, text: &[u8]) -> Result<Expression, Fail> {
         Ok(Expression::Number {
             start: AT,
@@ -47,23 +39,12 @@ impl Make {
         })
     }
 
-    pub fn lvalue(self, base: Base) -> Lvalue {
-        Lvalue {
-            base,
-            parts: Rows::new(self.alloc),
-        }
-    }
-
-    pub fn variable(self, name: &[u8]) -> Result<Lvalue, Fail> {
-        Ok(self.lvalue(Base::Variable(self.named(name)?)))
-    }
-
-    pub fn read(self, lvalue: Lvalue) -> Expression {
-        Expression::Value { start: AT, lvalue }
-    }
-
     pub fn value(self, name: &[u8]) -> Result<Expression, Fail> {
-        Ok(self.read(self.variable(name)?))
+        let lvalue = Lvalue {
+            base: Base::Variable(self.named(name)?),
+            parts: Rows::new(self.alloc),
+        };
+        Ok(Expression::Value { start: AT, lvalue })
     }
 
     pub fn unary(self, operator: UnaryOperator, operand: Expression) -> Result<Expression, Fail> {
@@ -97,13 +78,6 @@ impl Make {
             left: Boxed::new(self.alloc, left)?,
             right: Boxed::new(self.alloc, right)?,
         })
-    }
-
-    pub fn assign(self, target: Lvalue, value: Expression) -> Statement {
-        Statement::Assign {
-            target,
-            value: RightSide::Value(value),
-        }
     }
 
     pub fn branch<const N: usize>(
