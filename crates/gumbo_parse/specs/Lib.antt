@@ -4,5 +4,7 @@ pub mod Grammar
 pub mod Marks
 pub mod Operators
 pub mod Printing
+pub mod Reader
+pub mod Reading
 pub mod Tokens
 pub mod Words

@@ -10,8 +10,13 @@ mod identifier;
 mod integer;
 mod lexer;
 mod mark;
+mod operand;
 mod operator;
+mod primary;
 mod print;
+mod reader;
+mod reading;
+mod stop;
 mod token;
 mod word;
 
