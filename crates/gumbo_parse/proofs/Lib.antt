@@ -1,1 +1,7 @@
+pub mod ExpressionReads
+pub mod ExpressionForms
+pub mod ExpressionParts
+pub mod Levels
 pub mod Lower
+pub mod ReadingLaws
+pub mod TokenTests
