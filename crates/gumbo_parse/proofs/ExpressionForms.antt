@@ -174,7 +174,7 @@ module _ (k : ℕ) (all : AllGood k) (p at : Place) (every : Quantifier) where
       good-done 0 (λ y vs. BehindWord y (u ∷ i ∷ (rs ++ (c ∷ (us ++ vs))))) (Quantified at every x ends.0 ends.1 o.place o.expression) k
       (whole x u i c ends rs us o (name-is u x named) j q (keyword-is word.In i j in_sign) (sign-is mark.Colon c q colon) r w))))))
 
-quantifier-is : (t : Token) (every : Quantifier) → quantifier_of t ≡ Some every → t ≡ token.Word (quantifier_word every)
+pub quantifier-is : (t : Token) (every : Quantifier) → quantifier_of t ≡ Some every → t ≡ token.Word (quantifier_word every)
 quantifier-is (token.Word word.ForAll) every e = let same : every ≡ quantifier_variant.ForAll = cc in ap (λ (q : Quantifier). token.Word (quantifier_word q)) (sym same)
 quantifier-is (token.Word word.Exists) every e = let same : every ≡ quantifier_variant.Exists = cc in ap (λ (q : Quantifier). token.Word (quantifier_word q)) (sym same)
 quantifier-is t every e = cc

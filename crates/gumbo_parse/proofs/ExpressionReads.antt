@@ -19,7 +19,7 @@ use Rattle.gumbo_parse.proofs.ReadingLaws.{Gives, IsFound, IsStuck, Good, Choose
 use Rattle.gumbo_parse.proofs.ExpressionParts.{IsOperand, IsTail, GoesOn, AllGood, here, tail-good, tail-none}
 use Rattle.gumbo_parse.proofs.ExpressionForms.{IsPrimary, primary-good}
 
-start-append : (us vs : Tokens) → 1 ≤ length us → start_of (us ++ vs) ≡ start_of us
+pub start-append : (us vs : Tokens) → 1 ≤ length us → start_of (us ++ vs) ≡ start_of us
 start-append [] vs some = absurd (omega arith)
 start-append (u ∷ us) vs some = refl
 

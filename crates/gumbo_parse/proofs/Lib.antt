@@ -1,3 +1,4 @@
+pub mod Complete
 pub mod ExpressionReads
 pub mod ExpressionForms
 pub mod ExpressionParts
