@@ -73,14 +73,14 @@ primary-reach : (k m : ℕ) (t : Placed Token) (ts rest : Tokens) (e : Expressio
 unfolding readers
 primary-reach k m t ts rest e none found =
     ap (λ (u : Option UnaryOperator). next (or_else (elim (prefixed_if (readers k) t.place u) [ Some reader ↦ Some (reader ts) | None ↦ None ])
-      (next (primary (readers k) (t ∷ ts)) (λ x us. Ok (record { place = t.place; level = 8; expression = x }, us)))) (λ o us. (readers k).chain m o us)) (ap (λ (u : Option UnaryOperator). if_tight m u) none) ∙
+    (next (primary (readers k) (t ∷ ts)) (λ x us. Ok (record { place = t.place; level = 8; expression = x }, us)))) (λ o us. (readers k).chain m o us)) (ap (λ (u : Option UnaryOperator). if_tight m u) none) ∙
     ap (λ (a : Answer Expression). next (next a (λ x us. Ok (record { place = t.place; level = 8; expression = x }, us))) (λ o us. (readers k).chain m o us)) found
 
 unary-reach : (k m : ℕ) (t : Placed Token) (u : UnaryOperator) (ts rest : Tokens) (o : Operand) → unary_of t.token ≡ Some u → m ≤ unary_level u → (readers k).expression (unary_level u) ts ≡ Ok (o, rest) → (readers (suc k)).expression m (t ∷ ts) ≡ (readers k).chain m (record { place = t.place; level = unary_level u; expression = Unary t.place u o.expression }) rest
 unfolding readers
 unary-reach k m t u ts rest o is le found =
     ap (λ (v : Option UnaryOperator). next (or_else (elim (prefixed_if (readers k) t.place v) [ Some reader ↦ Some (reader ts) | None ↦ None ])
-      (next (primary (readers k) (t ∷ ts)) (λ x us. Ok (record { place = t.place; level = 8; expression = x }, us)))) (λ o us. (readers k).chain m o us)) (prefix-tight m t.token u is le) ∙
+    (next (primary (readers k) (t ∷ ts)) (λ x us. Ok (record { place = t.place; level = 8; expression = x }, us)))) (λ o us. (readers k).chain m o us)) (prefix-tight m t.token u is le) ∙
     ap (λ (a : Answer Operand). next (next a (λ x us. Ok (record { place = t.place; level = unary_level u; expression = Unary t.place u x.expression }, us))) (λ o us. (readers k).chain m o us)) found
 
 operator-no-mark : (m : Mark) (t : Token) (o : BinaryOperator) → binary_of (token.Mark m) ≡ None → binary_of t ≡ Some o → (b : Bool) → is_mark m t ≡ b → b ≡ false
@@ -88,9 +88,11 @@ operator-no-mark m t o none some false e = refl
 operator-no-mark m t o none some true e = let no : binary_of t ≡ None = ap binary_of (is_mark-true m t e) ∙ none in cc
 
 follow-operator : (t : Placed Token) (o : BinaryOperator) (ts : Tokens) → binary_of t.token ≡ Some o → Follow (left_level o) (t ∷ ts)
-follow-operator t o ts e =
-    (operator-no-mark mark.Dot t.token o refl e (is_mark mark.Dot t.token) refl, operator-no-mark mark.OpenBracket t.token o refl e (is_mark mark.OpenBracket t.token) refl,
-    λ p f. let same : o ≡ p = cc in omega (arith, ap left_level same))
+follow-operator t o ts e = (
+  operator-no-mark mark.Dot t.token o refl e (is_mark mark.Dot t.token) refl,
+  operator-no-mark mark.OpenBracket t.token o refl e (is_mark mark.OpenBracket t.token) refl,
+  λ p f. let same : o ≡ p = cc in omega (arith, ap left_level same),
+)
 
 bound-complete : (minus at : Place) (negative : Bool) (v : ℕ) (fs rest : Tokens) → SpellsBound (record { negative = negative; number = v; place = at }) fs → bound (fs ++ rest) ≡ Ok (record { negative = negative; number = v; place = at }, rest)
 bound-complete minus at true v fs rest b = ap (λ (w : Tokens). bound (w ++ rest)) b.1
@@ -152,7 +154,8 @@ reaches-end : (k n : ℕ) (e : Expression) (us rest : Tokens) → Loose n rest �
 reaches-end k n e us rest loose r = record {
   level = r.level;
   tight = r.tight;
-  equal = r.equal ∙ chain-stops r.left n (record { place = start_of us; level = r.level; expression = e }) rest loose }
+  equal = r.equal ∙ chain-stops r.left n (record { place = start_of us; level = r.level; expression = e }) rest loose;
+}
 
 -- without an operator before it
 primary-reaches : (k m n : ℕ) (t : Placed Token) (us rest : Tokens) (e : Expression) → n ≤ 8 → length (t ∷ us) ≤ suc k → unary_of t.token ≡ None → primary (readers k) (t ∷ us ++ rest) ≡ Ok (e, rest) → Reaches (suc k) m n e (t ∷ us) rest
@@ -228,9 +231,9 @@ quantified-complete : (k : ℕ) (all : Quantifier) (at i b c q : Place) (x : Nam
 quantified-complete k all at i b c q x from below body fs bs us rest f g done =
     let more : Bound × Bound → Tokens → Answer Expression = λ ends ws. next (take_one (sign_of mark.Colon) ws) (λ c xs. next (closed (readers k) xs) (λ o rest. Ok (Quantified at all x ends.0 ends.1 o.place o.expression, rest))) in
     ap (λ (a : Answer Bound). next (next a (λ from us. next (take_one (sign_of mark.Below) us) (λ b vs. next (bound vs) (λ below rest. Ok ((from, below), rest))))) more)
-      (bound-complete at from.place from.negative from.number fs (sign mark.Below b ∷ (bs ++ (sign mark.Colon c ∷ (us ++ (sign mark.CloseParenthesis q ∷ rest))))) f) ∙
+    (bound-complete at from.place from.negative from.number fs (sign mark.Below b ∷ (bs ++ (sign mark.Colon c ∷ (us ++ (sign mark.CloseParenthesis q ∷ rest))))) f) ∙
     ap (λ (a : Answer Bound). next (next a (λ below rest. Ok ((from, below), rest))) more)
-      (bound-complete at below.place below.negative below.number bs (sign mark.Colon c ∷ (us ++ (sign mark.CloseParenthesis q ∷ rest))) g) ∙
+    (bound-complete at below.place below.negative below.number bs (sign mark.Colon c ∷ (us ++ (sign mark.CloseParenthesis q ∷ rest))) g) ∙
     ap (λ (a : Answer Operand). next a (λ o rest. Ok (Quantified at all x from below o.place o.expression, rest))) (closed-complete k body us q rest done)
 
 parenthesised-complete : (k : ℕ) (e : Expression) (p q : Place) (us rest : Tokens) → Spells 0 e us → Ends k 0 e us (sign mark.CloseParenthesis q ∷ rest) → primary (readers k) (sign mark.OpenParenthesis p ∷ (us ++ sign mark.CloseParenthesis q ∷ []) ++ rest) ≡ Ok (e, rest)
@@ -312,26 +315,28 @@ mutual
   complete (suc k) n e ts (unary _ o operator x us _ _ a b c d f) tight m le fits rest follow =
       let long : length (o ∷ us) ≤ suc k = omega (arith, ap (λ (w : Tokens). length w) d) in
       let done = reaches-end k (unary_level operator) x us rest (loose-unary n operator rest a follow)
-        (complete k (unary_level operator) x us f (unary-bound operator) (unary_level operator) (omega arith) (omega arith) rest (follow-tighter n (unary_level operator) a rest follow)) in
+      (complete k (unary_level operator) x us f (unary-bound operator) (unary_level operator) (omega arith) (omega arith) rest (follow-tighter n (unary_level operator) a rest follow)) in
       reaches-from (suc k) m n (Unary o.place operator x) e ts (o ∷ us) rest c d (record {
         level = unary_level operator;
         left = k;
         tight = a;
         fits = omega arith;
-        equal = unary-reach k m o operator (us ++ rest) rest (record { place = start_of us; level = done.level; expression = x }) b (omega arith) done.equal })
+        equal = unary-reach k m o operator (us ++ rest) rest (record { place = start_of us; level = done.level; expression = x }) b (omega arith) done.equal;
+      })
   complete (suc k) n e ts (binary _ o operator l r us vs _ _ a b c d f g) tight m le fits rest follow =
       let long : length us + suc (length vs) ≤ suc k = omega (arith, ap (λ (w : Tokens). length w) d, length-append us (o ∷ vs)) in
       let one = complete (suc k) (left_level operator) l us f (left-bound operator) m (omega (arith, own-left operator)) (omega arith) (o ∷ vs ++ rest) (follow-operator o operator (vs ++ rest) b) in
       let two : ℕ = one.left - 1 in
       let below : one.left ≡ suc two = omega (arith, one.fits) in
       let done = reaches-end two (right_level operator) r vs rest (loose-right n operator rest a follow)
-        (complete two (right_level operator) r vs g (right-bound operator) (right_level operator) (omega arith) (omega (arith, one.fits)) rest (follow-tighter n (right_level operator) (omega (arith, own-right operator)) rest follow)) in
+      (complete two (right_level operator) r vs g (right-bound operator) (right_level operator) (omega arith) (omega (arith, one.fits)) rest (follow-tighter n (right_level operator) (omega (arith, own-right operator)) rest follow)) in
       reaches-from (suc k) m n (Binary o.place operator l r) e ts (us ++ o ∷ vs) rest c d (record {
         level = binary_level operator;
         left = two;
         tight = a;
         fits = omega (arith, one.fits, length-append us (o ∷ vs));
-        equal = binary-equal (suc k) two m one.level done.level l r o operator us vs rest one.left (spells-some (left_level operator) l us f) below b (omega arith) one.tight one.equal done.equal })
+        equal = binary-equal (suc k) two m one.level done.level l r o operator us vs rest one.left (spells-some (left_level operator) l us f) below b (omega arith) one.tight one.equal done.equal;
+      })
 
   tail-complete : (k : ℕ) (ss : List Selector) (us : Tokens) → SpellsTail ss us → (n : ℕ) → length us ≤ k → (parts : List Selector) (rest : Tokens) → Follow n rest → (readers k).tail parts (us ++ rest) ≡ Ok (parts ++ ss, rest)
   tail-complete k ss us (nothing _ _ p q) n fits parts rest f =

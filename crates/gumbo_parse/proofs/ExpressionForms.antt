@@ -28,7 +28,6 @@ use Rattle.gumbo_parse.proofs.Levels.{weaken}
 use Rattle.gumbo_parse.proofs.TokenTests.{sign-is, sign-same, keyword-is, keyword-same, name-is, number-is}
 use Rattle.gumbo_parse.proofs.ReadingLaws.{Good, Branch, Chooses, Further, good-done, good-stuck, good-next, good-or_else, good-take, good-further, good-ending, good-larger, good-one}
 
-
 abbrev pub IsPrimary : Expression → Tokens → Type 0
 IsPrimary e us = Spells 8 e us × (1 ≤ length us)
 
@@ -51,7 +50,7 @@ before-good k all at =
     good-next 0 0 (IsTail []) (λ y vs. Behind (keyword word.In at) y (ns ++ vs)) (λ j. (readers j).tail []) (λ parts j rest. Ok (Before at x parts, rest)) k
     (all.tail []) (λ parts us w. omega arith) (λ parts us w.
     let same : keyword word.In at ∷ (ns ++ (us ++ [])) ≡ keyword word.In at ∷ in_parentheses named.0 x named.1 ++ us =
-        ap (λ (v : Tokens). keyword word.In at ∷ (ns ++ v)) (append-nil us) ∙ ap (λ (v : Tokens). keyword word.In at ∷ (v ++ us)) named.2 in
+    ap (λ (v : Tokens). keyword word.In at ∷ (ns ++ v)) (append-nil us) ∙ ap (λ (v : Tokens). keyword word.In at ∷ (v ++ us)) named.2 in
     good-done 0 (λ y vs. Behind (keyword word.In at) y (ns ++ (us ++ vs))) (Before at x parts) k
     (before 8 at named.0 named.1 x w.0 us (Before at x parts) (keyword word.In at ∷ (ns ++ (us ++ []))) (ap (λ (ss : List Selector). Before at x ss) w.1) same w.2)))
 
@@ -60,7 +59,7 @@ test-good k at what =
     good-next 0 0 IsNamed (Behind (keyword (test_word what) at)) (λ j. name_in_parentheses) (λ x j rest. Ok (Test at what x, rest)) k
     (named-good k) (λ x ns w. omega arith) (λ x ns named.
     let same : keyword (test_word what) at ∷ (ns ++ []) ≡ keyword (test_word what) at ∷ in_parentheses named.0 x named.1 =
-        ap (λ (v : Tokens). keyword (test_word what) at ∷ v) (append-nil ns ∙ named.2) in
+    ap (λ (v : Tokens). keyword (test_word what) at ∷ v) (append-nil ns ∙ named.2) in
     good-done 0 (λ y vs. Behind (keyword (test_word what) at) y (ns ++ vs)) (Test at what x) k
     (test 8 at named.0 named.1 what x (Test at what x) (keyword (test_word what) at ∷ (ns ++ [])) refl same))
 
@@ -84,13 +83,15 @@ module _ (k : ℕ) (all : AllGood k) (at p : Place) (x : Named) (t u : Placed To
   sent-chooses v true c closes comma = inr (record {
     reader = λ j rest. Ok (Test at test_variant.MustSend x, rest);
     is = λ j. rw closes refl;
-    good = good-done 0 (λ y vs. BehindPort y (v ∷ vs)) (Test at test_variant.MustSend x) k (no-value v v.place (sign-is mark.CloseParenthesis v v.place (rw closes refl))) })
+    good = good-done 0 (λ y vs. BehindPort y (v ∷ vs)) (Test at test_variant.MustSend x) k (no-value v v.place (sign-is mark.CloseParenthesis v v.place (rw closes refl)));
+  })
   sent-chooses v false true closes comma = inr (record {
     reader = λ j ts. next (closed (readers j) ts) (λ o rest. Ok (MustSend at x o.place o.expression, rest));
     is = λ j. rw (closes, comma) refl;
     good = good-next 0 0 IsClosed (λ y vs. BehindPort y (v ∷ vs)) (λ j. closed (readers j)) (λ o j rest. Ok (MustSend at x o.place o.expression, rest)) k
-      (closed-good k all) (λ o us w. omega arith) (λ o us w.
-      good-done 0 (λ y vs. BehindPort y (v ∷ (us ++ vs))) (MustSend at x o.place o.expression) k (with-value v v.place (sign-is mark.Comma v v.place (rw comma refl)) o us w)) })
+        (closed-good k all) (λ o us w. omega arith) (λ o us w.
+        good-done 0 (λ y vs. BehindPort y (v ∷ (us ++ vs))) (MustSend at x o.place o.expression) k (with-value v v.place (sign-is mark.Comma v v.place (rw comma refl)) o us w));
+  })
   sent-chooses v false false closes comma = inl (λ j. rw (closes, comma) refl)
 
   sent-good : Good 0 BehindPort (λ j vs. or_else (chosen (sent_of (readers j) at x) vs) (stuck vs)) k
@@ -115,8 +116,9 @@ bound-chooses k t true minus = inr (record {
   reader = λ j ts. next (take_one number_of ts) (λ v rest. Ok (record { negative = true; number = v.0; place = v.1 }, rest));
   is = λ j. rw minus refl;
   good = good-take (λ y vs. SpellsBound y (t ∷ vs)) number_of (λ v j rest. Ok (record { negative = true; number = v.0; place = v.1 }, rest)) k (0, here) (number_token 0 here) refl (λ v u made.
-    good-done 0 (λ y vs. SpellsBound y (t ∷ u ∷ vs)) (record { negative = true; number = v.0; place = v.1 }) k
-    (negative-bound t u v (sign-is mark.Minus t t.place (rw minus refl)) (number-is u v made))) })
+      good-done 0 (λ y vs. SpellsBound y (t ∷ u ∷ vs)) (record { negative = true; number = v.0; place = v.1 }) k
+      (negative-bound t u v (sign-is mark.Minus t t.place (rw minus refl)) (number-is u v made)));
+})
 bound-chooses k t false minus = inl (λ j. rw minus refl)
 
 bound-good : (k : ℕ) → Good 0 SpellsBound (λ j. bound) k
@@ -138,7 +140,7 @@ range-good k =
     good-next 0 0 SpellsBound (λ y vs. IsRange y (fs ++ (t ∷ vs))) (λ j. bound) (λ below j rest. Ok ((from, below), rest)) k
     (bound-good k) (λ x us w. omega arith) (λ below bs g.
     let same : fs ++ (t ∷ (bs ++ [])) ≡ fs ++ sign mark.Below b ∷ bs =
-        ap (λ (v : Tokens). fs ++ (t ∷ v)) (append-nil bs) ∙ ap (λ (v : Placed Token). fs ++ (v ∷ bs)) (sign-is mark.Below t b below_sign) in
+    ap (λ (v : Tokens). fs ++ (t ∷ v)) (append-nil bs) ∙ ap (λ (v : Placed Token). fs ++ (v ∷ bs)) (sign-is mark.Below t b below_sign) in
     good-done 0 (λ y vs. IsRange y (fs ++ (t ∷ (bs ++ vs)))) (from, below) k (fs, bs, b, same, f, g))))
 
 module _ (k : ℕ) (all : AllGood k) (p at : Place) (every : Quantifier) where
@@ -152,9 +154,9 @@ module _ (k : ℕ) (all : AllGood k) (p at : Place) (every : Quantifier) where
   whole x u i c ends rs us o named j q in_sign colon r w =
       let closes : us ++ [] ≡ w.0 ++ sign mark.CloseParenthesis w.1 ∷ [] = append-nil us ∙ w.2 in
       let ranged : rs ++ (c ∷ (us ++ [])) ≡ r.0 ++ (sign mark.Below r.2 ∷ r.1 ++ (sign mark.Colon q ∷ w.0 ++ sign mark.CloseParenthesis w.1 ∷ [])) =
-          ap (λ (v : Tokens). v ++ (c ∷ (us ++ []))) r.3 ∙ append_assoc r.0 (sign mark.Below r.2 ∷ r.1) (c ∷ (us ++ [])) ∙
-          ap (λ (v : Placed Token). r.0 ++ (sign mark.Below r.2 ∷ r.1 ++ (v ∷ (us ++ [])))) colon ∙
-          ap (λ (v : Tokens). r.0 ++ (sign mark.Below r.2 ∷ r.1 ++ (sign mark.Colon q ∷ v))) closes in
+      ap (λ (v : Tokens). v ++ (c ∷ (us ++ []))) r.3 ∙ append_assoc r.0 (sign mark.Below r.2 ∷ r.1) (c ∷ (us ++ [])) ∙
+      ap (λ (v : Placed Token). r.0 ++ (sign mark.Below r.2 ∷ r.1 ++ (v ∷ (us ++ [])))) colon ∙
+      ap (λ (v : Tokens). r.0 ++ (sign mark.Below r.2 ∷ r.1 ++ (sign mark.Colon q ∷ v))) closes in
       let same : sign mark.OpenParenthesis p ∷ Word ∷ u ∷ i ∷ (rs ++ (c ∷ (us ++ []))) ≡ sign mark.OpenParenthesis p ∷ Word ∷ name_token x ∷ keyword word.In j ∷ (r.0 ++ (sign mark.Below r.2 ∷ r.1 ++ (sign mark.Colon q ∷ w.0 ++ sign mark.CloseParenthesis w.1 ∷ []))) = cc in
       quantified 8 at p j r.2 q w.1 every x ends.0 ends.1 o.expression r.0 r.1 w.0 (Quantified at every x ends.0 ends.1 o.place o.expression)
       (sign mark.OpenParenthesis p ∷ Word ∷ u ∷ i ∷ (rs ++ (c ∷ (us ++ []))))
@@ -184,7 +186,8 @@ quantified-chooses k all p t None e = inl (λ j. ap (λ (m : Option Quantifier).
 quantified-chooses k all p t (Some every) e = inr (record {
   reader = λ j. quantified_reader (readers j) t.place every;
   is = λ j. ap (λ (m : Option Quantifier). quantified_if (readers j) t.place m) e;
-  good = subst (λ (v : Token). Good 0 (λ y vs. Spells 8 y (sign mark.OpenParenthesis p ∷ record { token = v; place = t.place } ∷ vs)) (λ j. quantified_reader (readers j) t.place every) k) (sym (quantifier-is t.token every e)) (quantified-good k all p t.place every) })
+  good = subst (λ (v : Token). Good 0 (λ y vs. Spells 8 y (sign mark.OpenParenthesis p ∷ record { token = v; place = t.place } ∷ vs)) (λ j. quantified_reader (readers j) t.place every) k) (sym (quantifier-is t.token every e)) (quantified-good k all p t.place every);
+})
 
 bracketed-good : (k : ℕ) → AllGood k → (p : Place) → Good 0 (Behind (sign mark.OpenParenthesis p)) (λ j. bracketed (readers j)) k
 bracketed-good k all p =
@@ -200,39 +203,48 @@ primary-chooses : (k : ℕ) → AllGood k → (t : Token) (at : Place) → let p
 primary-chooses k all (token.Number v) at = inr (record {
   reader = λ j rest. Ok (Number at v, rest);
   is = λ j. refl;
-  good = good-done 0 (λ y vs. IsPrimary y (number_token v at ∷ vs)) (Number at v) k (number 8 at v (Number at v) (number_token v at ∷ []) refl refl, omega arith) })
+  good = good-done 0 (λ y vs. IsPrimary y (number_token v at ∷ vs)) (Number at v) k (number 8 at v (Number at v) (number_token v at ∷ []) refl refl, omega arith);
+})
 primary-chooses k all (token.Name n) at = inr (record {
   reader = λ j. value_reader (readers j) (record { name = n; place = at });
   is = λ j. refl;
-  good = good-larger 0 (Behind (name_token (record { name = n; place = at }))) (λ y vs. IsPrimary y (name_token (record { name = n; place = at }) ∷ vs)) (λ j. value_reader (readers j) (record { name = n; place = at })) (λ y vs w. (w, omega arith)) k (value-good k all (record { name = n; place = at })) })
+  good = good-larger 0 (Behind (name_token (record { name = n; place = at }))) (λ y vs. IsPrimary y (name_token (record { name = n; place = at }) ∷ vs)) (λ j. value_reader (readers j) (record { name = n; place = at })) (λ y vs w. (w, omega arith)) k (value-good k all (record { name = n; place = at }));
+})
 primary-chooses k all (token.Word word.True) at = inr (record {
   reader = λ j rest. Ok (Truth at true, rest);
   is = λ j. refl;
-  good = good-done 0 (λ y vs. IsPrimary y (keyword word.True at ∷ vs)) (Truth at true) k (truth 8 at true (Truth at true) (keyword word.True at ∷ []) refl refl, omega arith) })
+  good = good-done 0 (λ y vs. IsPrimary y (keyword word.True at ∷ vs)) (Truth at true) k (truth 8 at true (Truth at true) (keyword word.True at ∷ []) refl refl, omega arith);
+})
 primary-chooses k all (token.Word word.False) at = inr (record {
   reader = λ j rest. Ok (Truth at false, rest);
   is = λ j. refl;
-  good = good-done 0 (λ y vs. IsPrimary y (keyword word.False at ∷ vs)) (Truth at false) k (truth 8 at false (Truth at false) (keyword word.False at ∷ []) refl refl, omega arith) })
+  good = good-done 0 (λ y vs. IsPrimary y (keyword word.False at ∷ vs)) (Truth at false) k (truth 8 at false (Truth at false) (keyword word.False at ∷ []) refl refl, omega arith);
+})
 primary-chooses k all (token.Word word.In) at = inr (record {
   reader = λ j. before_reader (readers j) at;
   is = λ j. refl;
-  good = good-larger 0 (Behind (keyword word.In at)) (λ y vs. IsPrimary y (keyword word.In at ∷ vs)) (λ j. before_reader (readers j) at) (λ y vs w. (w, omega arith)) k (before-good k all at) })
+  good = good-larger 0 (Behind (keyword word.In at)) (λ y vs. IsPrimary y (keyword word.In at ∷ vs)) (λ j. before_reader (readers j) at) (λ y vs w. (w, omega arith)) k (before-good k all at);
+})
 primary-chooses k all (token.Word word.HasEvent) at = inr (record {
   reader = λ j. test_of at test_variant.HasEvent;
   is = λ j. refl;
-  good = good-larger 0 (Behind (keyword word.HasEvent at)) (λ y vs. IsPrimary y (keyword word.HasEvent at ∷ vs)) (λ j. test_of at test_variant.HasEvent) (λ y vs w. (w, omega arith)) k (test-good k at test_variant.HasEvent) })
+  good = good-larger 0 (Behind (keyword word.HasEvent at)) (λ y vs. IsPrimary y (keyword word.HasEvent at ∷ vs)) (λ j. test_of at test_variant.HasEvent) (λ y vs w. (w, omega arith)) k (test-good k at test_variant.HasEvent);
+})
 primary-chooses k all (token.Word word.NoSend) at = inr (record {
   reader = λ j. test_of at test_variant.NoSend;
   is = λ j. refl;
-  good = good-larger 0 (Behind (keyword word.NoSend at)) (λ y vs. IsPrimary y (keyword word.NoSend at ∷ vs)) (λ j. test_of at test_variant.NoSend) (λ y vs w. (w, omega arith)) k (test-good k at test_variant.NoSend) })
+  good = good-larger 0 (Behind (keyword word.NoSend at)) (λ y vs. IsPrimary y (keyword word.NoSend at ∷ vs)) (λ j. test_of at test_variant.NoSend) (λ y vs w. (w, omega arith)) k (test-good k at test_variant.NoSend);
+})
 primary-chooses k all (token.Word word.MustSend) at = inr (record {
   reader = λ j. must_send_reader (readers j) at;
   is = λ j. refl;
-  good = good-larger 0 (Behind (keyword word.MustSend at)) (λ y vs. IsPrimary y (keyword word.MustSend at ∷ vs)) (λ j. must_send_reader (readers j) at) (λ y vs w. (w, omega arith)) k (must_send-good k all at) })
+  good = good-larger 0 (Behind (keyword word.MustSend at)) (λ y vs. IsPrimary y (keyword word.MustSend at ∷ vs)) (λ j. must_send_reader (readers j) at) (λ y vs w. (w, omega arith)) k (must_send-good k all at);
+})
 primary-chooses k all (token.Mark mark.OpenParenthesis) at = inr (record {
   reader = λ j. bracketed (readers j);
   is = λ j. refl;
-  good = good-larger 0 (Behind (sign mark.OpenParenthesis at)) (λ y vs. IsPrimary y (sign mark.OpenParenthesis at ∷ vs)) (λ j. bracketed (readers j)) (λ y vs w. (w, omega arith)) k (bracketed-good k all at) })
+  good = good-larger 0 (Behind (sign mark.OpenParenthesis at)) (λ y vs. IsPrimary y (sign mark.OpenParenthesis at ∷ vs)) (λ j. bracketed (readers j)) (λ y vs w. (w, omega arith)) k (bracketed-good k all at);
+})
 primary-chooses k all t at = inl (λ j. refl)
 
 pub primary-good : (k : ℕ) → AllGood k → Good 1 IsPrimary (λ j. primary (readers j)) k

@@ -88,25 +88,29 @@ index-more : (parts : List Selector) (t u : Placed Token) (q : Place) (o : Opera
 index-more parts t u q o us opens closes w z vs more =
     let one : Index o.place o.expression ∷ more.0 ≡ Index (start_of us) o.expression ∷ more.0 = ap (λ (at : Place). Index at o.expression ∷ more.0) w.start in
     let same : t ∷ us ++ (u ∷ vs) ≡ sign mark.OpenBracket t.place ∷ us ++ sign mark.CloseBracket q ∷ vs =
-        ap (λ (v : Placed Token). v ∷ us ++ (u ∷ vs)) opens ∙ ap (λ (v : Placed Token). sign mark.OpenBracket t.place ∷ us ++ (v ∷ vs)) closes in
-    (Index o.place o.expression ∷ more.0, more.1 ∙ append_assoc parts (Index o.place o.expression ∷ []) more.0,
-    index t.place q o.expression more.0 us vs (Index o.place o.expression ∷ more.0) (t ∷ us ++ (u ∷ vs)) one same (weaken 0 o.level w.tight o.expression us w.spelled) more.2)
+    ap (λ (v : Placed Token). v ∷ us ++ (u ∷ vs)) opens ∙ ap (λ (v : Placed Token). sign mark.OpenBracket t.place ∷ us ++ (v ∷ vs)) closes in (
+      Index o.place o.expression ∷ more.0,
+      more.1 ∙ append_assoc parts (Index o.place o.expression ∷ []) more.0,
+      index t.place q o.expression more.0 us vs (Index o.place o.expression ∷ more.0) (t ∷ us ++ (u ∷ vs)) one same (weaken 0 o.level w.tight o.expression us w.spelled) more.2,
+    )
 
 part-chooses : (k : ℕ) → AllGood k → (parts : List Selector) (t : Placed Token) (b c : Bool) → is_mark mark.Dot t.token ≡ b → is_mark mark.OpenBracket t.token ≡ c → Chooses 0 (IsTail parts) (λ j. part_of (readers j) parts) k t
 part-chooses k all parts t true c dot opens = inr (record {
   reader = λ j ts. next (take_one name_of ts) (λ x rest. (readers j).tail (parts ++ Field x ∷ []) rest);
   is = λ j. rw dot refl;
   good = good-take (λ y vs. IsTail parts y (t ∷ vs)) name_of (λ x j rest. (readers j).tail (parts ++ Field x ∷ []) rest) k someone (name_token someone) refl (λ x u named.
-    good-larger 0 (IsTail (parts ++ Field x ∷ [])) (λ z vs. IsTail parts z (t ∷ u ∷ vs)) (λ j. (readers j).tail (parts ++ Field x ∷ []))
-    (field-more parts t u x (sign-is mark.Dot t t.place (rw dot refl)) (name-is u x named)) k (all.tail (parts ++ Field x ∷ []))) })
+      good-larger 0 (IsTail (parts ++ Field x ∷ [])) (λ z vs. IsTail parts z (t ∷ u ∷ vs)) (λ j. (readers j).tail (parts ++ Field x ∷ []))
+      (field-more parts t u x (sign-is mark.Dot t t.place (rw dot refl)) (name-is u x named)) k (all.tail (parts ++ Field x ∷ [])));
+})
 part-chooses k all parts t false true dot opens = inr (record {
   reader = λ j ts. next ((readers j).expression 0 ts) (λ o us. next (take_one (sign_of mark.CloseBracket) us) (λ q rest. (readers j).tail (parts ++ Index o.place o.expression ∷ []) rest));
   is = λ j. rw (dot, opens) refl;
   good = good-next 0 0 (IsOperand 0) (λ y vs. IsTail parts y (t ∷ vs)) (λ j. (readers j).expression 0) (λ o j us. next (take_one (sign_of mark.CloseBracket) us) (λ q rest. (readers j).tail (parts ++ Index o.place o.expression ∷ []) rest)) k
-    (all.expression 0 (omega arith)) (λ o us w. omega arith) (λ o us w.
-    good-take (λ y vs. IsTail parts y (t ∷ us ++ vs)) (sign_of mark.CloseBracket) (λ q j rest. (readers j).tail (parts ++ Index o.place o.expression ∷ []) rest) k here (sign mark.CloseBracket here) (sign-same mark.CloseBracket here) (λ q u closes.
-    good-larger 0 (IsTail (parts ++ Index o.place o.expression ∷ [])) (λ z vs. IsTail parts z (t ∷ us ++ (u ∷ vs))) (λ j. (readers j).tail (parts ++ Index o.place o.expression ∷ []))
-    (index-more parts t u q o us (sign-is mark.OpenBracket t t.place (rw opens refl)) (sign-is mark.CloseBracket u q closes) w) k (all.tail (parts ++ Index o.place o.expression ∷ [])))) })
+      (all.expression 0 (omega arith)) (λ o us w. omega arith) (λ o us w.
+      good-take (λ y vs. IsTail parts y (t ∷ us ++ vs)) (sign_of mark.CloseBracket) (λ q j rest. (readers j).tail (parts ++ Index o.place o.expression ∷ []) rest) k here (sign mark.CloseBracket here) (sign-same mark.CloseBracket here) (λ q u closes.
+      good-larger 0 (IsTail (parts ++ Index o.place o.expression ∷ [])) (λ z vs. IsTail parts z (t ∷ us ++ (u ∷ vs))) (λ j. (readers j).tail (parts ++ Index o.place o.expression ∷ []))
+      (index-more parts t u q o us (sign-is mark.OpenBracket t t.place (rw opens refl)) (sign-is mark.CloseBracket u q closes) w) k (all.tail (parts ++ Index o.place o.expression ∷ []))));
+})
 part-chooses k all parts t false false dot opens = inl (λ j. rw (dot, opens) refl)
 
 pub tail-nothing : (parts : List Selector) → IsTail parts parts []

@@ -47,14 +47,16 @@ good-done slack L x k spelled = record {
   example = x;
   example_tokens = [];
   example_spelled = spelled;
-  at = λ ts fits. record { us = []; split = refl; spelled = spelled; same = λ j other e within. refl } }
+  at = λ ts fits. record { us = []; split = refl; spelled = spelled; same = λ j other e within. refl };
+}
 
 pub good-stuck : {X : Type 0} (slack : ℕ) (L : X → Tokens → Type 0) (x : X) (us : Tokens) (k : ℕ) → L x us → Good slack L (λ j ts. stuck ts) k
 good-stuck slack L x us k spelled = record {
   example = x;
   example_tokens = us;
   example_spelled = spelled;
-  at = λ ts fits. record { us = []; rest = ts; split = refl; left_is = refl; goal = x; more = us; viable = spelled; same = λ j other e within. refl } }
+  at = λ ts fits. record { us = []; rest = ts; split = refl; left_is = refl; goal = x; more = us; viable = spelled; same = λ j other e within. refl };
+}
 
 -- one behind another
 module _ {X Y : Type 0} (s r : ℕ) (A : X → Tokens → Type 0) (L : Y → Tokens → Type 0) (p : ℕ → Tokens → Answer X) (q : X → ℕ → Tokens → Answer Y) (k : ℕ) where
@@ -67,10 +69,11 @@ module _ {X Y : Type 0} (s r : ℕ) (A : X → Tokens → Type 0) (L : Y → Tok
     split = f.split ∙ ap (λ (v : Tokens). f.us ++ v) h.split ∙ sym (append_assoc f.us h.us w.1);
     spelled = h.spelled;
     same = λ j other e within.
-      let here : first rest ≡ first (h.us ++ other) = ap first h.split ∙ first-append h.us w.1 other e in
-      let one : p j (f.us ++ (h.us ++ other)) ≡ Ok (x, h.us ++ other) = f.same j (h.us ++ other) here (omega (arith, length-append f.us h.us)) in
-      let two : q x j (h.us ++ other) ≡ Ok (w.0, other) = h.same j other e (omega (arith, length-append f.us h.us)) in
-      ap (λ (v : Tokens). both j v) (append_assoc f.us h.us other) ∙ ap (λ (a : Answer X). next a (λ x rest. q x j rest)) one ∙ two }
+        let here : first rest ≡ first (h.us ++ other) = ap first h.split ∙ first-append h.us w.1 other e in
+        let one : p j (f.us ++ (h.us ++ other)) ≡ Ok (x, h.us ++ other) = f.same j (h.us ++ other) here (omega (arith, length-append f.us h.us)) in
+        let two : q x j (h.us ++ other) ≡ Ok (w.0, other) = h.same j other e (omega (arith, length-append f.us h.us)) in
+        ap (λ (v : Tokens). both j v) (append_assoc f.us h.us other) ∙ ap (λ (a : Answer X). next a (λ x rest. q x j rest)) one ∙ two;
+  }
   behind ts x rest f passed (Err left) h = record {
     us = f.us ++ h.us;
     rest = h.rest;
@@ -80,35 +83,38 @@ module _ {X Y : Type 0} (s r : ℕ) (A : X → Tokens → Type 0) (L : Y → Tok
     more = h.more;
     viable = subst (λ (v : Tokens). L h.goal v) (sym (append_assoc f.us h.us h.more)) h.viable;
     same = λ j other e within.
-      let here : first rest ≡ first (h.us ++ other) = ap first h.split ∙ first-append h.us h.rest other e in
-      let one : p j (f.us ++ (h.us ++ other)) ≡ Ok (x, h.us ++ other) = f.same j (h.us ++ other) here (omega (arith, length-append f.us h.us)) in
-      let two : q x j (h.us ++ other) ≡ Err (length other) = h.same j other e (omega (arith, length-append f.us h.us)) in
-      ap (λ (v : Tokens). both j v) (append_assoc f.us h.us other) ∙ ap (λ (a : Answer X). next a (λ x rest. q x j rest)) one ∙ two }
+        let here : first rest ≡ first (h.us ++ other) = ap first h.split ∙ first-append h.us h.rest other e in
+        let one : p j (f.us ++ (h.us ++ other)) ≡ Ok (x, h.us ++ other) = f.same j (h.us ++ other) here (omega (arith, length-append f.us h.us)) in
+        let two : q x j (h.us ++ other) ≡ Err (length other) = h.same j other e (omega (arith, length-append f.us h.us)) in
+        ap (λ (v : Tokens). both j v) (append_assoc f.us h.us other) ∙ ap (λ (a : Answer X). next a (λ x rest. q x j rest)) one ∙ two;
+  }
 
   both-gives : (ts : Tokens) → length ts ≤ s + k → ((x : X) (us : Tokens) → A x us → s ≤ length us + r) → ((x : X) (us : Tokens) → A x us → Good r (λ y vs. L y (us ++ vs)) (q x) k) → (a : Answer X) → Gives s A p ts a → Gives s L both ts (next a (λ x rest. q x k rest))
   both-gives ts fits passed good (Ok w) f =
-    behind ts w.0 w.1 f (passed w.0 f.us f.spelled) (q w.0 k w.1)
-    ((good w.0 f.us f.spelled).at w.1 (omega (arith, passed w.0 f.us f.spelled, length-append f.us w.1, ap (λ (v : Tokens). length v) f.split)))
+      behind ts w.0 w.1 f (passed w.0 f.us f.spelled) (q w.0 k w.1)
+      ((good w.0 f.us f.spelled).at w.1 (omega (arith, passed w.0 f.us f.spelled, length-append f.us w.1, ap (λ (v : Tokens). length v) f.split)))
   both-gives ts fits passed good (Err left) f =
-    let g = good f.goal (f.us ++ f.more) f.viable in
-    record {
-      us = f.us;
-      rest = f.rest;
-      split = f.split;
-      left_is = f.left_is;
-      goal = g.example;
-      more = f.more ++ g.example_tokens;
-      viable = subst (λ (v : Tokens). L g.example v) (append_assoc f.us f.more g.example_tokens) g.example_spelled;
-      same = λ j other e within. ap (λ (a : Answer X). next a (λ x rest. q x j rest)) (f.same j other e within) }
+      let g = good f.goal (f.us ++ f.more) f.viable in
+      record {
+        us = f.us;
+        rest = f.rest;
+        split = f.split;
+        left_is = f.left_is;
+        goal = g.example;
+        more = f.more ++ g.example_tokens;
+        viable = subst (λ (v : Tokens). L g.example v) (append_assoc f.us f.more g.example_tokens) g.example_spelled;
+        same = λ j other e within. ap (λ (a : Answer X). next a (λ x rest. q x j rest)) (f.same j other e within);
+      }
 
   pub good-next : Good s A p k → ((x : X) (us : Tokens) → A x us → s ≤ length us + r) → ((x : X) (us : Tokens) → A x us → Good r (λ y vs. L y (us ++ vs)) (q x) k) → Good s L both k
   good-next a passed good =
-    let g = good a.example a.example_tokens a.example_spelled in
-    record {
-      example = g.example;
-      example_tokens = a.example_tokens ++ g.example_tokens;
-      example_spelled = g.example_spelled;
-      at = λ ts fits. both-gives ts fits passed good (p k ts) (a.at ts fits) }
+      let g = good a.example a.example_tokens a.example_spelled in
+      record {
+        example = g.example;
+        example_tokens = a.example_tokens ++ g.example_tokens;
+        example_spelled = g.example_spelled;
+        at = λ ts fits. both-gives ts fits passed good (p k ts) (a.at ts fits);
+      }
 
 -- a choice by the first token
 pub record Branch {X : Type 0} (slack : ℕ) (L : X → Tokens → Type 0) (g : ℕ → Placed Token → Option (Tokens → Answer X)) (t : Placed Token) (k : ℕ) : Type 0 where
@@ -131,7 +137,8 @@ module _ {X : Type 0} (s r : ℕ) (within_one : s ≤ suc r) (L : X → Tokens �
     us = t ∷ f.us;
     split = ap (λ (v : Tokens). t ∷ v) f.split;
     spelled = f.spelled;
-    same = λ j other e within. ap (λ (c : Option (Tokens → Answer X)). taking j c (f.us ++ other) (t ∷ f.us ++ other)) (is j) ∙ f.same j other e (omega arith) }
+    same = λ j other e within. ap (λ (c : Option (Tokens → Answer X)). taking j c (f.us ++ other) (t ∷ f.us ++ other)) (is j) ∙ f.same j other e (omega arith);
+  }
   branch-gives t ts reader is (Err left) f = record {
     us = t ∷ f.us;
     rest = f.rest;
@@ -140,15 +147,16 @@ module _ {X : Type 0} (s r : ℕ) (within_one : s ≤ suc r) (L : X → Tokens �
     goal = f.goal;
     more = f.more;
     viable = f.viable;
-    same = λ j other e within. ap (λ (c : Option (Tokens → Answer X)). taking j c (f.us ++ other) (t ∷ f.us ++ other)) (is j) ∙ f.same j other e (omega arith) }
+    same = λ j other e within. ap (λ (c : Option (Tokens → Answer X)). taking j c (f.us ++ other) (t ∷ f.us ++ other)) (is j) ∙ f.same j other e (omega arith);
+  }
 
   -- which token stands first is all that the choice sees
   falls : (j : ℕ) (ts : Tokens) (t : Placed Token) → first ts ≡ Some t → g j t ≡ None → alternative j ts ≡ p j ts
   falls j [] t e none = refl
   falls j (u ∷ us) t e none =
-    let same : u ≡ t = cc in
-    let no : g j u ≡ None = ap (λ (v : Placed Token). g j v) same ∙ none in
-    ap (λ (c : Option (Tokens → Answer X)). taking j c us (u ∷ us)) no
+      let same : u ≡ t = cc in
+      let no : g j u ≡ None = ap (λ (v : Placed Token). g j v) same ∙ none in
+      ap (λ (c : Option (Tokens → Answer X)). taking j c us (u ∷ us)) no
 
   ends : (j : ℕ) (ts : Tokens) → first ts ≡ None → alternative j ts ≡ p j ts
   ends j [] e = refl
@@ -162,7 +170,8 @@ module _ {X : Type 0} (s r : ℕ) (within_one : s ≤ suc r) (L : X → Tokens �
     us = f.us;
     split = f.split;
     spelled = f.spelled;
-    same = λ j other e within. away j (f.us ++ other) (first-of-split ts f.us w.1 other f.split e) ∙ f.same j other e within }
+    same = λ j other e within. away j (f.us ++ other) (first-of-split ts f.us w.1 other f.split e) ∙ f.same j other e within;
+  }
   fall-gives ts away (Err left) f = record {
     us = f.us;
     rest = f.rest;
@@ -171,22 +180,25 @@ module _ {X : Type 0} (s r : ℕ) (within_one : s ≤ suc r) (L : X → Tokens �
     goal = f.goal;
     more = f.more;
     viable = f.viable;
-    same = λ j other e within. away j (f.us ++ other) (first-of-split ts f.us f.rest other f.split e) ∙ f.same j other e within }
+    same = λ j other e within. away j (f.us ++ other) (first-of-split ts f.us f.rest other f.split e) ∙ f.same j other e within;
+  }
 
   alternative-gives : (ts : Tokens) → length ts ≤ s + k → ((t : Placed Token) → Chooses r L g k t) → Good s L p k → Gives s L alternative ts (alternative k ts)
   alternative-gives [] fits branches fallback = fall-gives [] (λ j all e. ends j all e) (p k []) (fallback.at [] fits)
   alternative-gives (t ∷ ts) fits branches fallback = elim (branches t) [
-    inl none ↦ subst (λ (a : Answer X). Gives s L alternative (t ∷ ts) a) (sym (falls k (t ∷ ts) t refl (none k)))
-      (fall-gives (t ∷ ts) (λ j all e. falls j all t e (none j)) (p k (t ∷ ts)) (fallback.at (t ∷ ts) fits)) |
-    inr branch ↦ subst (λ (a : Answer X). Gives s L alternative (t ∷ ts) a) (sym (ap (λ (c : Option (Tokens → Answer X)). taking k c ts (t ∷ ts)) (branch.is k)))
-      (branch-gives t ts branch.reader branch.is (branch.reader k ts) (branch.good.at ts (omega arith))) ]
+    | inl none ↦ subst (λ (a : Answer X). Gives s L alternative (t ∷ ts) a) (sym (falls k (t ∷ ts) t refl (none k)))
+        (fall-gives (t ∷ ts) (λ j all e. falls j all t e (none j)) (p k (t ∷ ts)) (fallback.at (t ∷ ts) fits))
+    | inr branch ↦ subst (λ (a : Answer X). Gives s L alternative (t ∷ ts) a) (sym (ap (λ (c : Option (Tokens → Answer X)). taking k c ts (t ∷ ts)) (branch.is k)))
+        (branch-gives t ts branch.reader branch.is (branch.reader k ts) (branch.good.at ts (omega arith)))
+  ]
 
   pub good-or_else : ((t : Placed Token) → Chooses r L g k t) → Good s L p k → Good s L alternative k
   good-or_else branches fallback = record {
     example = fallback.example;
     example_tokens = fallback.example_tokens;
     example_spelled = fallback.example_spelled;
-    at = λ ts fits. alternative-gives ts fits branches fallback }
+    at = λ ts fits. alternative-gives ts fits branches fallback;
+  }
 
 -- one token
 abbrev pub IsOne : {X : Type 0} → (Placed Token → Option X) → X → Tokens → Type 0
@@ -204,7 +216,8 @@ taken-gives s make x us one t ts (Some y) e = record {
   us = t ∷ [];
   split = refl;
   spelled = (t, refl, e);
-  same = λ j other same within. ap (λ m. taken m t other) e }
+  same = λ j other same within. ap (λ m. taken m t other) e;
+}
 taken-gives s make x us one t ts None e = record {
   us = [];
   rest = t ∷ ts;
@@ -213,7 +226,8 @@ taken-gives s make x us one t ts None e = record {
   goal = x;
   more = us;
   viable = one;
-  same = λ j other same within. refuses make t ts e other same }
+  same = λ j other same within. refuses make t ts e other same;
+}
 
 none-gives : {X : Type 0} (s : ℕ) (make : Placed Token → Option X) (x : X) (us : Tokens) → IsOne make x us → (other : Tokens) → first [] ≡ first other → take_one make other ≡ Err (length other)
 none-gives s make x us one [] e = refl
@@ -228,7 +242,8 @@ one-gives s make x us one [] = record {
   goal = x;
   more = us;
   viable = one;
-  same = λ j other e within. none-gives s make x us one other e }
+  same = λ j other e within. none-gives s make x us one other e;
+}
 one-gives s make x us one (t ∷ ts) = taken-gives s make x us one t ts (make t) refl
 
 pub good-one : {X : Type 0} (s : ℕ) (make : Placed Token → Option X) (x : X) (t : Placed Token) (k : ℕ) → make t ≡ Some x → Good s (IsOne make) (λ j. take_one make) k
@@ -236,7 +251,8 @@ good-one s make x t k e = record {
   example = x;
   example_tokens = t ∷ [];
   example_spelled = (t, refl, e);
-  at = λ ts fits. one-gives s make x (t ∷ []) (t, refl, e) ts }
+  at = λ ts fits. one-gives s make x (t ∷ []) (t, refl, e) ts;
+}
 
 -- one token, and then another reader; `x` and `t` are an example
 pub good-take : {X Y : Type 0} (L : Y → Tokens → Type 0) (make : Placed Token → Option X) (q : X → ℕ → Tokens → Answer Y) (k : ℕ) (x : X) (t : Placed Token) → make t ≡ Some x → ((y : X) (u : Placed Token) → make u ≡ Some y → Good 0 (λ z vs. L z (u ∷ vs)) (q y) k) → Good 0 L (λ j ts. next (take_one make ts) (λ y rest. q y j rest)) k
@@ -271,14 +287,16 @@ module _ {X : Type 0} (L : X → Tokens → Type 0) (p body : ℕ → Tokens →
     goal = f.goal;
     more = f.more;
     viable = f.viable;
-    same = deeper-stuck f.us f.rest f.same }
+    same = deeper-stuck f.us f.rest f.same;
+  }
 
   pub good-deeper : (k : ℕ) → Good 1 L body k → Good 0 L p (suc k)
   good-deeper k good = record {
     example = good.example;
     example_tokens = good.example_tokens;
     example_spelled = good.example_spelled;
-    at = λ ts fits. subst (λ (a : Answer X). Gives 0 L p ts a) (sym (deeper.one k ts)) (deeper-gives ts (body k ts) (good.at ts (omega arith))) }
+    at = λ ts fits. subst (λ (a : Answer X). Gives 0 L p ts a) (sym (deeper.one k ts)) (deeper-gives ts (body k ts) (good.at ts (omega arith)));
+  }
 
   at-end : (j : ℕ) (other : Tokens) → first [] ≡ first other → p j other ≡ Err (length other)
   at-end zero other e = deeper.none other
@@ -294,7 +312,8 @@ module _ {X : Type 0} (L : X → Tokens → Type 0) (p body : ℕ → Tokens →
     goal = x;
     more = us;
     viable = spelled;
-    same = λ j other e within. at-end j other e }
+    same = λ j other e within. at-end j other e;
+  }
   none-stuck x us (t ∷ ts) spelled fits = absurd (omega arith)
 
   pub good-none : (x : X) (us : Tokens) → L x us → Good 0 L p zero
@@ -302,7 +321,8 @@ module _ {X : Type 0} (L : X → Tokens → Type 0) (p body : ℕ → Tokens →
     example = x;
     example_tokens = us;
     example_spelled = spelled;
-    at = λ ts fits. subst (λ (a : Answer X). Gives 0 L p ts a) (sym (deeper.none ts)) (none-stuck x us ts spelled fits) }
+    at = λ ts fits. subst (λ (a : Answer X). Gives 0 L p ts a) (sym (deeper.none ts)) (none-stuck x us ts spelled fits);
+  }
 
 -- the same for what may end at once, with `x`
 pub record Further {X : Type 0} (p : ℕ → Tokens → Answer X) (g : ℕ → Placed Token → Option (Tokens → Answer X)) (x : X) : Type 0 where
@@ -316,14 +336,15 @@ module _ {X : Type 0} (L : X → Tokens → Type 0) (p : ℕ → Tokens → Answ
   further-branch : (t : Placed Token) (reader : ℕ → Tokens → Answer X) → ((j : ℕ) → g j t ≡ Some (reader j)) → (us rest : Tokens) (a : Tokens → Answer X) → ((j : ℕ) (other : Tokens) → first rest ≡ first other → length us ≤ 0 + j → reader j (us ++ other) ≡ a other) → (j : ℕ) (other : Tokens) → first rest ≡ first other → length (t ∷ us) ≤ 0 + j → p j (t ∷ us ++ other) ≡ a other
   further-branch t reader is us rest a same zero other e within = absurd (omega arith)
   further-branch t reader is us rest a same (suc j) other e within =
-    further.one j (t ∷ us ++ other) ∙ ap (λ (c : Option (Tokens → Answer X)). taking 1 0 (omega arith) L g ending j j c (us ++ other) (t ∷ us ++ other)) (is j) ∙ same j other e (omega arith)
+      further.one j (t ∷ us ++ other) ∙ ap (λ (c : Option (Tokens → Answer X)). taking 1 0 (omega arith) L g ending j j c (us ++ other) (t ∷ us ++ other)) (is j) ∙ same j other e (omega arith)
 
   further-reads : (t : Placed Token) (ts : Tokens) (reader : ℕ → Tokens → Answer X) → ((j : ℕ) → g j t ≡ Some (reader j)) → (a : Answer X) → Gives 0 (λ y vs. L y (t ∷ vs)) reader ts a → Gives 0 L p (t ∷ ts) a
   further-reads t ts reader is (Ok w) f = record {
     us = t ∷ f.us;
     split = ap (λ (v : Tokens). t ∷ v) f.split;
     spelled = f.spelled;
-    same = further-branch t reader is f.us w.1 (λ other. Ok (w.0, other)) f.same }
+    same = further-branch t reader is f.us w.1 (λ other. Ok (w.0, other)) f.same;
+  }
   further-reads t ts reader is (Err left) f = record {
     us = t ∷ f.us;
     rest = f.rest;
@@ -332,7 +353,8 @@ module _ {X : Type 0} (L : X → Tokens → Type 0) (p : ℕ → Tokens → Answ
     goal = f.goal;
     more = f.more;
     viable = f.viable;
-    same = further-branch t reader is f.us f.rest (λ other. Err (length other)) f.same }
+    same = further-branch t reader is f.us f.rest (λ other. Err (length other)) f.same;
+  }
 
   further-ends : (ts : Tokens) → ((j : ℕ) (all : Tokens) → first ts ≡ first all → or_else (chosen (g j) all) (Ok (x, all)) ≡ Ok (x, all)) → (j : ℕ) (other : Tokens) → first ts ≡ first other → length {A = Placed Token} [] ≤ 0 + j → p j ([] ++ other) ≡ Ok (x, other)
   further-ends ts away zero other e within = further.none other
@@ -351,10 +373,11 @@ module _ {X : Type 0} (L : X → Tokens → Type 0) (p : ℕ → Tokens → Answ
   further-gives : (k : ℕ) → ((t : Placed Token) → Chooses 0 L g k t) → (ts : Tokens) → length ts ≤ 0 + suc k → Gives 0 L p ts (p (suc k) ts)
   further-gives k branches [] fits = subst (λ (a : Answer X). Gives 0 L p [] a) (sym (further.one k [])) (further-ended [] away-empty)
   further-gives k branches (t ∷ ts) fits = elim (branches t) [
-    inl none ↦ subst (λ (a : Answer X). Gives 0 L p (t ∷ ts) a) (sym (further.one k (t ∷ ts) ∙ away-none t ts none k (t ∷ ts) refl)) (further-ended (t ∷ ts) (away-none t ts none)) |
-    inr branch ↦ subst (λ (a : Answer X). Gives 0 L p (t ∷ ts) a)
-      (sym (further.one k (t ∷ ts) ∙ ap (λ (c : Option (Tokens → Answer X)). taking 1 0 (omega arith) L g ending k k c ts (t ∷ ts)) (branch.is k)))
-      (further-reads t ts branch.reader branch.is (branch.reader k ts) (branch.good.at ts (omega arith))) ]
+    | inl none ↦ subst (λ (a : Answer X). Gives 0 L p (t ∷ ts) a) (sym (further.one k (t ∷ ts) ∙ away-none t ts none k (t ∷ ts) refl)) (further-ended (t ∷ ts) (away-none t ts none))
+    | inr branch ↦ subst (λ (a : Answer X). Gives 0 L p (t ∷ ts) a)
+        (sym (further.one k (t ∷ ts) ∙ ap (λ (c : Option (Tokens → Answer X)). taking 1 0 (omega arith) L g ending k k c ts (t ∷ ts)) (branch.is k)))
+        (further-reads t ts branch.reader branch.is (branch.reader k ts) (branch.good.at ts (omega arith)))
+  ]
 
   further-none : (ts : Tokens) → length ts ≤ 0 + zero → Gives 0 L p ts (p zero ts)
   further-none [] fits = subst (λ (a : Answer X). Gives 0 L p [] a) (sym (further.none [])) (further-ended [] away-empty)
@@ -377,7 +400,8 @@ module _ {X : Type 0} (s : ℕ) (L M : X → Tokens → Type 0) (p : ℕ → Tok
     goal = f.goal;
     more = f.more;
     viable = larger f.goal (f.us ++ f.more) f.viable;
-    same = f.same }
+    same = f.same;
+  }
 
   -- a reader of a language is one of each larger language of which it finds all
   pub good-larger : (k : ℕ) → Good s L p k → Good s M p k
@@ -385,4 +409,5 @@ module _ {X : Type 0} (s : ℕ) (L M : X → Tokens → Type 0) (p : ℕ → Tok
     example = good.example;
     example_tokens = good.example_tokens;
     example_spelled = larger good.example good.example_tokens good.example_spelled;
-    at = λ ts fits. larger-gives ts (p k ts) (good.at ts fits) }
+    at = λ ts fits. larger-gives ts (p k ts) (good.at ts fits);
+  }

@@ -1,4 +1,5 @@
 pub mod Annex
+pub mod AnnexReader
 pub mod Classes
 pub mod Grammar
 pub mod Marks

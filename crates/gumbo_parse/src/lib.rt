@@ -2,7 +2,10 @@
 #![tactic(auto)]
 
 mod annex;
+mod annex_reader;
 mod class;
+mod class_reader;
+mod clause_reader;
 mod contract;
 mod description;
 mod expression;
