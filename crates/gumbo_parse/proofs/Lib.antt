@@ -1,3 +1,10 @@
+pub mod ParseLaws
+pub mod AnnexReads
+pub mod ClauseReads
+pub mod BodyReads
+pub mod ClassReads
+pub mod ManyReads
+pub mod ManyLaws
 pub mod Complete
 pub mod ExpressionReads
 pub mod ExpressionForms

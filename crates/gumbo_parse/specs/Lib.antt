@@ -4,6 +4,7 @@ pub mod Classes
 pub mod Grammar
 pub mod Marks
 pub mod Operators
+pub mod Parsing
 pub mod Printing
 pub mod Reader
 pub mod Reading

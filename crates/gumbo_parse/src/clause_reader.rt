@@ -119,15 +119,14 @@ fn body(alloc: Global, tokens: &[Placed<Token>]) -> Result<(Operand, &[Placed<To
 {
     let (own, after) = tokens.split_at(span(tokens));
     match expression(alloc, own.len(), 0, own) {
-        Ok((found, left)) => {
-            if left.is_empty() {
+        Ok((found, left)) => match left.split_first() {
+            None => {
                 let (_, rest) = sign(after, Mark::Semicolon)?;
                 Ok((found, rest))
-            } else {
-                Err(Stop::Stuck(tokens.len() - (own.len() - left.len())))
             }
-        }
-        Err(Stop::Stuck(left)) => Err(Stop::Stuck(tokens.len() - (own.len() - left))),
+            Some(_) => Err(Stop::Stuck(left.len() + after.len())),
+        },
+        Err(Stop::Stuck(left)) => Err(Stop::Stuck(left + after.len())),
         Err(Stop::NoMemory) => Err(Stop::NoMemory),
     }
 }
