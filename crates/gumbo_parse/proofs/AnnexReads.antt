@@ -110,14 +110,16 @@ initialize-test k t true c e f = inr (record {
   reader = λ j. some clause_of;
   is = λ j. rw e refl;
   good = good-larger 0 (IsSome SpellsClause clause_of clauses-choose a-clause clause-tokens a-clause-spelled) (λ y vs. IsInitialize y (t ∷ vs)) (λ j. some clause_of)
-    (λ y vs w. inl (spells-section SpellsClause clause_of clauses-choose a-clause clause-tokens a-clause-spelled (is_word word.Initialize) word.Initialize (is_word-true word.Initialize) t e y vs w)) k
-    (some-good SpellsClause clause_of clauses-choose a-clause clause-tokens a-clause-spelled k) })
+      (λ y vs w. inl (spells-section SpellsClause clause_of clauses-choose a-clause clause-tokens a-clause-spelled (is_word word.Initialize) word.Initialize (is_word-true word.Initialize) t e y vs w)) k
+      (some-good SpellsClause clause_of clauses-choose a-clause clause-tokens a-clause-spelled k);
+})
 initialize-test k t false true e f = inr (record {
   reader = λ j. some clause_of;
   is = λ j. rw (e, f) refl;
   good = good-larger 0 (IsSome SpellsClause clause_of clauses-choose a-clause clause-tokens a-clause-spelled) (λ y vs. IsInitialize y (t ∷ vs)) (λ j. some clause_of)
-    (λ y vs w. inr (spells-section SpellsClause clause_of clauses-choose a-clause clause-tokens a-clause-spelled (is_word word.Initialise) word.Initialise (is_word-true word.Initialise) t f y vs w)) k
-    (some-good SpellsClause clause_of clauses-choose a-clause clause-tokens a-clause-spelled k) })
+      (λ y vs w. inr (spells-section SpellsClause clause_of clauses-choose a-clause clause-tokens a-clause-spelled (is_word word.Initialise) word.Initialise (is_word-true word.Initialise) t f y vs w)) k
+      (some-good SpellsClause clause_of clauses-choose a-clause clause-tokens a-clause-spelled k);
+})
 initialize-test k t false false e f = inl (λ j. rw (e, f) refl)
 
 initialize-good : (k : ℕ) → Good 0 IsInitialize (λ j. section is_initialize clause_of) k
@@ -139,5 +141,5 @@ contract-good k =
     good-next 0 0 SpellsCompute (λ y xs. SpellsContract y (us ++ (vs ++ (ws ++ xs)))) (λ j. compute) (λ c j rest. Ok (record { state = ss; integration = is; initialize = ns; compute = c }, rest)) k
     (compute-good k) (λ y us w. omega arith) (λ c xs w.
     let same : us ++ (vs ++ (ws ++ (xs ++ []))) ≡ us ++ vs ++ ws ++ xs =
-        ap (λ (v : Tokens). us ++ (vs ++ (ws ++ v))) (append-nil xs) ∙ sym (append_assoc us vs (ws ++ xs)) ∙ sym (append_assoc (us ++ vs) ws xs) in
+    ap (λ (v : Tokens). us ++ (vs ++ (ws ++ v))) (append-nil xs) ∙ sym (append_assoc us vs (ws ++ xs)) ∙ sym (append_assoc (us ++ vs) ws xs) in
     good-done 0 (λ y zs. SpellsContract y (us ++ (vs ++ (ws ++ (xs ++ zs))))) (record { state = ss; integration = is; initialize = ns; compute = c }) k (us, vs, ws, xs, same, s, i, n, w)))))

@@ -88,7 +88,8 @@ apart-step t ts u us r more false e split =
 apart : (ts us r : Tokens) → before ts ≡ us ++ r → Apart ts us r
 apart ts [] r split = record {
   none = λ other. sym (zero-add (span other));
-  next_is = ap (λ (v : Tokens). keep (first (v ++ after ts))) (sym split) ∙ ap (λ (v : Tokens). keep (first v)) (both ts) ∙ sym (first-before ts) ∙ ap (λ (v : Tokens). first v) split }
+  next_is = ap (λ (v : Tokens). keep (first (v ++ after ts))) (sym split) ∙ ap (λ (v : Tokens). keep (first v)) (both ts) ∙ sym (first-before ts) ∙ ap (λ (v : Tokens). first v) split;
+}
 apart [] (u ∷ us) r split = cc
 apart (t ∷ ts) (u ∷ us) r split = apart-step t ts u us r (apart ts us r) (is_mark mark.Semicolon t.token) refl split
 
@@ -140,12 +141,13 @@ module _ (ts : Tokens) where
         split = sym (both ts) ∙ ap (λ (v : Tokens). v ++ after ts) (f.split ∙ append-nil f.us) ∙ ap (λ (v : Tokens). f.us ++ v) shape ∙ sym (append_assoc f.us (s ∷ []) rest);
         spelled = (f.us, s.place, ap (λ (v : Placed Token). f.us ++ v ∷ []) at, f.spelled);
         same = λ j other e within.
-          let found : Expressions (length f.us + span (s ∷ other)) (f.us ++ []) ≡ Ok (o, []) = f.same (length f.us + span (s ∷ other)) [] refl (omega arith) in
-          ap (λ (v : Tokens). body v) (append_assoc f.us (s ∷ []) other) ∙ body-split f.us (s ∷ other) a.none ∙
-          ap (λ (v : Tokens). ended (after (s ∷ other)) (Expressions (length f.us + span (s ∷ other)) (f.us ++ v))) (before-semicolon s other semicolon) ∙
-          ap (λ (x : Answer Operand). ended (after (s ∷ other)) x) found ∙
-          ap (λ (v : Tokens). finished o [] v) (after-semicolon s other semicolon) ∙
-          ap (λ (m : Option Place). next (taken m s other) (λ q rest. Ok (o, rest))) (ap (λ (b : Bool). place_if b s.place) semicolon) }
+            let found : Expressions (length f.us + span (s ∷ other)) (f.us ++ []) ≡ Ok (o, []) = f.same (length f.us + span (s ∷ other)) [] refl (omega arith) in
+            ap (λ (v : Tokens). body v) (append_assoc f.us (s ∷ []) other) ∙ body-split f.us (s ∷ other) a.none ∙
+            ap (λ (v : Tokens). ended (after (s ∷ other)) (Expressions (length f.us + span (s ∷ other)) (f.us ++ v))) (before-semicolon s other semicolon) ∙
+            ap (λ (x : Answer Operand). ended (after (s ∷ other)) x) found ∙
+            ap (λ (v : Tokens). finished o [] v) (after-semicolon s other semicolon) ∙
+            ap (λ (m : Option Place). next (taken m s other) (λ q rest. Ok (o, rest))) (ap (λ (b : Bool). place_if b s.place) semicolon);
+      }
 
   nothing-more : (o : Operand) (f : IsFound 0 (IsOperand 0) Expressions (before ts) o []) → NoSemicolon f.us → (other : Tokens) → first [] ≡ first other → body (f.us ++ other) ≡ Err (length other)
   nothing-more o f none [] e = body-split f.us [] none ∙ ap (λ (x : Answer Operand). ended [] x) (f.same (length f.us + 0) [] refl (omega arith))
@@ -162,7 +164,8 @@ module _ (ts : Tokens) where
         goal = o;
         more = sign mark.Semicolon here ∷ [];
         viable = (f.us, here, refl, f.spelled);
-        same = λ j other e within. nothing-more o f a.none other e }
+        same = λ j other e within. nothing-more o f a.none other e;
+      }
 
   -- the expression reader stands at a token before the semicolon, or at the end of what is before it
   stuck-before : (us rest : Tokens) → before ts ≡ us ++ rest → (goal : Operand) (more : Tokens) → IsOperand 0 goal (us ++ more) →
@@ -178,8 +181,9 @@ module _ (ts : Tokens) where
         more = more ++ sign mark.Semicolon here ∷ [];
         viable = (us ++ more, here, sym (append_assoc us more (sign mark.Semicolon here ∷ [])), w);
         same = λ j other e within.
-          let first_same : first rest ≡ first (before other) = sym a.next_is ∙ ap keep e ∙ sym (first-before other) in
-          body-split us other a.none ∙ same (length us + span other) other first_same (omega arith) }
+            let first_same : first rest ≡ first (before other) = sym a.next_is ∙ ap keep e ∙ sym (first-before other) in
+            body-split us other a.none ∙ same (length us + span other) other first_same (omega arith);
+      }
 
   found-early : (o : Operand) (t : Placed Token) (r : Tokens) → IsFound 0 (IsOperand 0) Expressions (before ts) o (t ∷ r) → IsStuck 0 IsBody (λ j. body) ts (length (t ∷ r) + length (after ts))
   found-early o t r f = stuck-before f.us (t ∷ r) f.split o [] (subst (λ (v : Tokens). IsOperand 0 o v) (sym (append-nil f.us)) f.spelled) (λ j other e within.
@@ -205,7 +209,7 @@ module _ (ts : Tokens) where
   body-gives (Ok w) f = found-gives w.0 w.1 f
   body-gives (Err left) f =
       let stands = stuck-before f.us f.rest f.split f.goal f.more f.viable (λ j other e within.
-        ap (λ (x : Answer Operand). ended (after other) x) (f.same j (before other) e (omega arith)) ∙ ap (λ (n : ℕ). let x : Answer Operand = Err n in x) (both-length other)) in
+      ap (λ (x : Answer Operand). ended (after other) x) (f.same j (before other) e (omega arith)) ∙ ap (λ (n : ℕ). let x : Answer Operand = Err n in x) (both-length other)) in
       subst (λ (n : ℕ). IsStuck 0 IsBody (λ j. body) ts (n + length (after ts))) (sym f.left_is) stands
 
 pub body-good : (k : ℕ) → Good 0 IsBody (λ j. body) k
@@ -215,7 +219,8 @@ body-good k =
       example = e.example;
       example_tokens = e.example_tokens ++ sign mark.Semicolon here ∷ [];
       example_spelled = (e.example_tokens, here, refl, e.example_spelled);
-      at = λ ts fits. body-gives ts ((readers (span ts)).expression 0 (take (span ts) ts)) (((all-good (span ts)).expression 0 (omega arith)).at (take (span ts) ts) (omega (arith, length-take {A = Placed Token}))) }
+      at = λ ts fits. body-gives ts ((readers (span ts)).expression 0 (take (span ts) ts)) (((all-good (span ts)).expression 0 (omega arith)).at (take (span ts) ts) (omega (arith, length-take {A = Placed Token})));
+    }
 
 pub expression-left : (k : ℕ) (ts : Tokens) (left : ℕ) → length ts ≤ k → (readers k).expression 0 ts ≡ Err left → left ≤ length ts
 expression-left k ts left fits e = stuck-length 0 (IsOperand 0) (λ j. (readers j).expression 0) ts ((readers k).expression 0 ts) left (((all-good k).expression 0 (omega arith)).at ts (omega arith)) e

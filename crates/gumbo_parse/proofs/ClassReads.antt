@@ -42,7 +42,8 @@ step-test : (k : ℕ) (t : Placed Token) (b : Bool) → is_mark mark.DoubleColon
 step-test k t true e = inr (record {
   reader = λ j. name_behind;
   is = λ j. rw e refl;
-  good = good-larger 0 IsBehind (λ y vs. IsStep y (t ∷ vs)) (λ j. name_behind) (step-larger t (sign-is mark.DoubleColon t t.place (rw e refl))) k (behind-good k) })
+  good = good-larger 0 IsBehind (λ y vs. IsStep y (t ∷ vs)) (λ j. name_behind) (step-larger t (sign-is mark.DoubleColon t t.place (rw e refl))) k (behind-good k);
+})
 step-test k t false e = inl (λ j. rw e refl)
 
 step-chooses : (k : ℕ) (t : Placed Token) → Chooses 0 IsStep (λ j. step_of) k t
@@ -68,7 +69,8 @@ dotted-test k t true e = inr (record {
   reader = λ j ts. next (name_behind ts) (λ n rest. Ok (Some n, rest));
   is = λ j. rw e refl;
   good = good-next 0 0 IsBehind (λ y vs. SpellsImplementation y (t ∷ vs)) (λ j. name_behind) (λ n j rest. Ok (Some n, rest)) k (behind-good k) (λ x us w. omega arith) (λ n us w.
-    good-done 0 (λ y vs. SpellsImplementation y (t ∷ (us ++ vs))) (Some n) k (dotted-larger t (sign-is mark.Dot t t.place (rw e refl)) n us w)) })
+      good-done 0 (λ y vs. SpellsImplementation y (t ∷ (us ++ vs))) (Some n) k (dotted-larger t (sign-is mark.Dot t t.place (rw e refl)) n us w));
+})
 dotted-test k t false e = inl (λ j. rw e refl)
 
 implementation-good : (k : ℕ) → Good 0 SpellsImplementation (λ j ts. or_else (chosen dotted_of ts) (Ok (None, ts))) k
@@ -131,7 +133,7 @@ typed-good k x =
     good-next 0 0 SpellsClass (λ y vs. SpellsVariable y (name_token x ∷ t ∷ vs)) (λ j. class) (λ c j vs. next (take_one (sign_of mark.Semicolon) vs) (λ q rest. Ok (record { name = x; class = c }, rest))) k (class-good k) (λ y us w. omega arith) (λ c us w.
     good-take (λ y vs. SpellsVariable y (name_token x ∷ t ∷ (us ++ vs))) (sign_of mark.Semicolon) (λ q j rest. Ok (record { name = x; class = c }, rest)) k here (sign mark.Semicolon here) (sign-same mark.Semicolon here) (λ q u semicolon.
     let same : name_token x ∷ t ∷ (us ++ (u ∷ [])) ≡ name_token x ∷ sign mark.Colon p ∷ us ++ sign mark.Semicolon q ∷ [] =
-        ap (λ (v : Placed Token). name_token x ∷ v ∷ (us ++ (u ∷ []))) (sign-is mark.Colon t p colon) ∙ ap (λ (v : Placed Token). name_token x ∷ sign mark.Colon p ∷ (us ++ (v ∷ []))) (sign-is mark.Semicolon u q semicolon) in
+    ap (λ (v : Placed Token). name_token x ∷ v ∷ (us ++ (u ∷ []))) (sign-is mark.Colon t p colon) ∙ ap (λ (v : Placed Token). name_token x ∷ sign mark.Colon p ∷ (us ++ (v ∷ []))) (sign-is mark.Semicolon u q semicolon) in
     good-done 0 (λ y vs. SpellsVariable y (name_token x ∷ t ∷ (us ++ (u ∷ vs)))) (record { name = x; class = c }) k (p, q, us, same, w))))
 
 variable-chooses : (k : ℕ) (t : Token) (at : Place) → let placed : Placed Token = record { token = t; place = at } in Chooses 0 SpellsVariable (λ j. variable_of) k placed

@@ -46,11 +46,19 @@ whole-clause : (kind : ClauseKind) (at p : Place) (x : Named) (d : Option (List 
 whole-clause kind at p x d o t u ds bs named colon described b =
     let tokens : bs ++ [] ≡ b.0 ++ sign mark.Semicolon b.1 ∷ [] = append-nil bs ∙ b.2 in
     let same : keyword (clause_word kind) at ∷ t ∷ (ds ++ (u ∷ (bs ++ []))) ≡ keyword (clause_word kind) at ∷ name_token x ∷ (ds ++ (sign mark.Colon p ∷ b.0 ++ sign mark.Semicolon b.1 ∷ [])) =
-        ap (λ (v : Placed Token). keyword (clause_word kind) at ∷ v ∷ (ds ++ (u ∷ (bs ++ [])))) named ∙
-        ap (λ (v : Placed Token). keyword (clause_word kind) at ∷ name_token x ∷ (ds ++ (v ∷ (bs ++ [])))) colon ∙
-        ap (λ (v : Tokens). keyword (clause_word kind) at ∷ name_token x ∷ (ds ++ (sign mark.Colon p ∷ v))) tokens in
-    (at, p, b.1, ds, b.0, same ∙ sym (append_assoc (keyword (clause_word kind) at ∷ name_token x ∷ ds) (sign mark.Colon p ∷ b.0) (sign mark.Semicolon b.1 ∷ [])),
-    described, weaken 0 o.level b.3.tight o.expression b.0 b.3.spelled, b.3.start)
+    ap (λ (v : Placed Token). keyword (clause_word kind) at ∷ v ∷ (ds ++ (u ∷ (bs ++ [])))) named ∙
+    ap (λ (v : Placed Token). keyword (clause_word kind) at ∷ name_token x ∷ (ds ++ (v ∷ (bs ++ [])))) colon ∙
+    ap (λ (v : Tokens). keyword (clause_word kind) at ∷ name_token x ∷ (ds ++ (sign mark.Colon p ∷ v))) tokens in (
+      at,
+      p,
+      b.1,
+      ds,
+      b.0,
+      same ∙ sym (append_assoc (keyword (clause_word kind) at ∷ name_token x ∷ ds) (sign mark.Colon p ∷ b.0) (sign mark.Semicolon b.1 ∷ [])),
+      described,
+      weaken 0 o.level b.3.tight o.expression b.0 b.3.spelled,
+      b.3.start,
+    )
 
 clause-good : (k : ℕ) (kind : ClauseKind) (at : Place) → Good 0 (λ y vs. SpellsClause y (keyword (clause_word kind) at ∷ vs)) (λ j. clause kind) k
 clause-good k kind at =
@@ -96,7 +104,8 @@ module _ {X : Type 0} (L : X → Tokens → Type 0) (choose : Choice X) (chooses
     section-test k t true e = inr (record {
       reader = λ j. some choose;
       is = λ j. rw e refl;
-      good = good-larger 0 IsSome (λ y vs. SpellsSection w L y (t ∷ vs)) (λ j. some choose) (spells-section t e) k (some-good k) })
+      good = good-larger 0 IsSome (λ y vs. SpellsSection w L y (t ∷ vs)) (λ j. some choose) (spells-section t e) k (some-good k);
+    })
     section-test k t false e = inl (λ j. rw e refl)
 
     pub section-good : (k : ℕ) → Good 0 (SpellsSection w L) (λ j. section test choose) k

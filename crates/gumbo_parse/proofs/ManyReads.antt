@@ -39,8 +39,9 @@ module _ {X : Type 0} (L : X → Tokens → Type 0) (choose : Choice X) (chooses
     reader = λ j us. next (branch.reader j us) (λ x rest. many choose j (xs ++ x ∷ []) rest);
     is = λ j. ap (λ m. member_if (many choose j) xs m) (branch.is j);
     good = good-next 0 0 (λ y vs. L y (t ∷ vs)) (λ y vs. IsEach xs y (t ∷ vs)) branch.reader (λ x j rest. many choose j (xs ++ x ∷ []) rest) k
-      branch.good (λ x us w. omega arith) (λ x us w.
-      good-larger 0 (IsEach (xs ++ x ∷ [])) (λ y vs. IsEach xs y (t ∷ us ++ vs)) (λ j. many choose j (xs ++ x ∷ [])) (one-each xs t x us w) k (all (xs ++ x ∷ []))) })
+        branch.good (λ x us w. omega arith) (λ x us w.
+        good-larger 0 (IsEach (xs ++ x ∷ [])) (λ y vs. IsEach xs y (t ∷ us ++ vs)) (λ j. many choose j (xs ++ x ∷ [])) (one-each xs t x us w) k (all (xs ++ x ∷ [])));
+  })
 
   many-good : (k : ℕ) (xs : List X) → Good 0 (IsEach xs) (λ j. many choose j xs) k
   many-good zero xs = good-ending (IsEach xs) (λ j. many choose j xs) (λ j t. member_if (many choose j) xs (choose t)) xs (many-further xs) (none-each xs)
@@ -53,7 +54,8 @@ module _ {X : Type 0} (L : X → Tokens → Type 0) (choose : Choice X) (chooses
     us = f.us;
     split = f.split;
     spelled = f.spelled;
-    same = λ j other e within. f.same (length (f.us ++ other)) other e (omega (arith, length-append f.us other)) }
+    same = λ j other e within. f.same (length (f.us ++ other)) other e (omega (arith, length-append f.us other));
+  }
   each-gives xs ts (Err left) f = record {
     us = f.us;
     rest = f.rest;
@@ -62,14 +64,16 @@ module _ {X : Type 0} (L : X → Tokens → Type 0) (choose : Choice X) (chooses
     goal = f.goal;
     more = f.more;
     viable = f.viable;
-    same = λ j other e within. f.same (length (f.us ++ other)) other e (omega (arith, length-append f.us other)) }
+    same = λ j other e within. f.same (length (f.us ++ other)) other e (omega (arith, length-append f.us other));
+  }
 
   pub each-good : (k : ℕ) (xs : List X) → Good 0 (IsEach xs) (λ j. each choose xs) k
   each-good k xs = record {
     example = xs;
     example_tokens = [];
     example_spelled = none-each xs;
-    at = λ ts fits. each-gives xs ts (each choose xs ts) ((many-good (length ts) xs).at ts (omega arith)) }
+    at = λ ts fits. each-gives xs ts (each choose xs ts) ((many-good (length ts) xs).at ts (omega arith));
+  }
 
   -- what is behind a member is shorter
   shorter-member : (t : Placed Token) (us : Tokens) (x : X) (rest : Tokens) (m : Option (Tokens → Answer X)) → choose t ≡ m → (let a : Option (Answer X) = elim m [ Some reader ↦ Some (reader us) | None ↦ None ] in a) ≡ Some (Ok (x, rest)) → Chooses 0 L (λ j. choose) (length us) t → length rest ≤ length us

@@ -52,3 +52,7 @@ stuck-at at end bytes left ts (Err l) f n place lexes e rest drops is =
 
 pub stuck-there : (at end : Place) (bytes left : List ℕ) (ts : Tokens) (n : ℕ) (place : Place) → Lexes token_at skipped at bytes ts end left → contract ts ≡ Err n → (rest : Tokens) → rest ≡ drop (length ts - n) ts → place ≡ place_before rest end → IsReadTo at bytes place
 stuck-there at end bytes left ts n place lexes e rest drops is = stuck-at at end bytes left ts (contract ts) (gives ts) n place lexes e rest drops is
+
+pub none-left : {A : Type 0} (xs : List A) → length xs ≡ 0 → xs ≡ []
+none-left [] e = refl
+none-left (x ∷ xs) e = absurd (omega (arith, e))

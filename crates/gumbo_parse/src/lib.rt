@@ -33,10 +33,12 @@ pub use identifier::Identifier;
 pub use integer::Integer;
 pub use lexer::read_tokens;
 pub use mark::Mark;
-pub use parse::parse_annex;
 pub use operator::{BinaryOperator, PortTest, Quantifier, UnaryOperator};
+pub use parse::parse_annex;
 pub use token::Token;
 pub use word::Word;
 
+#[cfg(test)]
+mod parse_tests;
 #[cfg(test)]
 mod tests;
