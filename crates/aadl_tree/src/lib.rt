@@ -47,3 +47,6 @@ pub use subcomponent::Subcomponent;
 pub use token::Token;
 pub use value::{Number, PropertyValue, Quantity, RecordField, Sign};
 pub use word::Word;
+
+#[cfg(test)]
+mod tests;

@@ -1,1 +1,15 @@
+pub mod ParseLaws
+pub mod AnnexReads
+pub mod ClauseReads
+pub mod BodyReads
+pub mod ClassReads
+pub mod ManyReads
+pub mod ManyLaws
+pub mod Complete
+pub mod ExpressionReads
+pub mod ExpressionForms
+pub mod ExpressionParts
+pub mod Levels
 pub mod Lower
+pub mod ReadingLaws
+pub mod TokenTests

@@ -1,8 +1,12 @@
 pub mod Annex
+pub mod AnnexReader
 pub mod Classes
 pub mod Grammar
 pub mod Marks
 pub mod Operators
+pub mod Parsing
 pub mod Printing
+pub mod Reader
+pub mod Reading
 pub mod Tokens
 pub mod Words

@@ -2,7 +2,10 @@
 #![tactic(auto)]
 
 mod annex;
+mod annex_reader;
 mod class;
+mod class_reader;
+mod clause_reader;
 mod contract;
 mod description;
 mod expression;
@@ -10,8 +13,14 @@ mod identifier;
 mod integer;
 mod lexer;
 mod mark;
+mod operand;
 mod operator;
+mod parse;
+mod primary;
 mod print;
+mod reader;
+mod reading;
+mod stop;
 mod token;
 mod word;
 
@@ -25,8 +34,11 @@ pub use integer::Integer;
 pub use lexer::read_tokens;
 pub use mark::Mark;
 pub use operator::{BinaryOperator, PortTest, Quantifier, UnaryOperator};
+pub use parse::parse_annex;
 pub use token::Token;
 pub use word::Word;
 
+#[cfg(test)]
+mod parse_tests;
 #[cfg(test)]
 mod tests;

@@ -1,0 +1,5 @@
+//! Canonical texts, with each production of the grammar once.
+
+mod declarations;
+mod tree;
+mod values;

@@ -1,0 +1,9 @@
+pub mod Blanks
+pub mod ExpressionGrammar
+pub mod Keywords
+pub mod Levels
+pub mod Marks
+pub mod StatementGrammar
+pub mod Tokens
+pub mod UnitGrammar
+pub mod Values

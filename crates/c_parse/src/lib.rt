@@ -1,0 +1,24 @@
+//! From the text of C to its trees.
+#![tactic(auto)]
+
+mod blank;
+mod keyword;
+mod leaf;
+mod lexer;
+mod mark;
+mod terminals;
+mod token;
+mod types;
+mod words;
+
+pub use keyword::Keyword;
+pub use leaf::{read_one, sign, stands};
+pub use lexer::read_tokens;
+pub use mark::Mark;
+pub use terminals::{IntegerAt, LiteralAt, NameAt, TruthAt, UnaryAt};
+pub use token::Token;
+pub use types::{length, signed_literal, stands_integer, type_name};
+pub use words::{stands_word, word};
+
+#[cfg(test)]
+mod tests;

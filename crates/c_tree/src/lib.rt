@@ -1,0 +1,43 @@
+//! C, as trees: what a unit of C text says, and its canonical text.
+#![tactic(auto)]
+
+mod byte_class;
+mod expression;
+mod identifier;
+mod integer_type;
+mod item;
+mod named;
+mod numeral;
+mod numeral_text;
+mod operator;
+mod print_call;
+mod print_expression;
+mod print_function;
+mod print_head;
+mod print_item;
+mod print_statement;
+mod print_type;
+mod print_typedef;
+mod statement;
+mod type_name;
+mod unit;
+mod word;
+
+pub use expression::{Argument, Base, Call, Expression, Lvalue, RightSide, Selector};
+pub use identifier::{Identifier, begins_name, continues_name};
+pub use integer_type::IntegerType;
+pub use item::{
+    Enumeration, External, Function, InitialValue, Item, Member, Parameter, Pointer, Prototype,
+    Returned, Structure, Variable,
+};
+pub use named::{Literal, Named, SignedLiteral};
+pub use numeral::Numeral;
+pub use numeral_text::past_numeral;
+pub use operator::{BinaryOperator, UnaryOperator};
+pub use statement::{Branch, LocalValue, Otherwise, Statement};
+pub use type_name::TypeName;
+pub use unit::{Unit, print};
+pub use word::is_word;
+
+#[cfg(test)]
+mod tests;

@@ -1,0 +1,35 @@
+-- What it means that a text is a contract, and where one stops being one (this project's own; docs/formats/contracts.md).
+use Rattle.std.specs.Prelude.{◌≡◌, ℕ, List, [], ◌∷◌, ◌++◌, Result, Ok, Err}
+use Rattle.hw_text.specs.declared.place.Place.{Place}
+use Rattle.hw_text.specs.declared.fault.Fault.{Fault}
+use Rattle.hw_text.specs.declared.fault.Fault.TheVariants as fault
+use Rattle.hw_text.specs.declared.refusal.Refusal.{Refusal}
+use Rattle.hw_text.specs.Text.{skipped}
+use Rattle.hw_text.specs.Tokens.{Lexes}
+use Rattle.gumbo_parse.specs.declared.contract.Contract.{Contract}
+use Rattle.gumbo_parse.specs.Annex.{SpellsContract}
+use Rattle.gumbo_parse.specs.Reading.{Tokens}
+use Rattle.gumbo_parse.specs.Tokens.{token_at}
+
+-- the text at a place is this contract
+abbrev pub IsContract : Place → List ℕ → Contract → Type 0
+IsContract at bytes c = (ts : Tokens) × (end : Place) × Lexes token_at skipped at bytes ts end [] × SpellsContract c ts
+
+-- some contract begins with these tokens
+abbrev pub BeginsContract : Tokens → Type 0
+BeginsContract us = (c : Contract) × (more : Tokens) × SpellsContract c (us ++ more)
+
+-- where the first of these tokens stands, or else where they end
+abbrev pub place_before : Tokens → Place → Place
+place_before [] end = end
+place_before (t ∷ ts) end = t.place
+
+-- the tokens before this place begin a contract
+abbrev pub IsReadTo : Place → List ℕ → Place → Type 0
+IsReadTo at bytes place =
+    (us rest : Tokens) × (end : Place) × (left : List ℕ) × Lexes token_at skipped at bytes (us ++ rest) end left × BeginsContract us ×
+    (place ≡ place_before rest end)
+
+abbrev pub IfRefusedFor : Fault → (Refusal → Type 0) → Type 0
+IfRefusedFor (fault.Refused r) P = P r
+IfRefusedFor fault.NoMemory P = Unit {0}
