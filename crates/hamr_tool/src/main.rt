@@ -54,4 +54,6 @@ fn words(rt: &HostRuntime, alloc: Global) -> Result<WordList, NoMemory> {
 }
 
 #[cfg(test)]
+mod model_tests;
+#[cfg(test)]
 mod tests;

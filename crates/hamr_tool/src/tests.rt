@@ -5,7 +5,7 @@ use hw_text::{NoMemory, WordList};
 use std::alloc::Global;
 use std::test::Fail;
 
-const MODEL: &[u8] = b"package J public
+pub const MODEL: &[u8] = b"package J public
 with Base_Types;
 device Src features o: out event data port Base_Types::Integer_32; end Src;
 device Snk features x: in event data port Base_Types::Integer_32 {Queue_Size => 2;}; end Snk;
@@ -30,7 +30,7 @@ const TICK: &[u8] = b"0 0 src release o 1
 0 0 src tick
 ";
 
-fn word_list(alloc: Global, words: &[&[u8]]) -> Result<WordList, NoMemory> {
+pub fn word_list(alloc: Global, words: &[&[u8]]) -> Result<WordList, NoMemory> {
     let mut list = WordList::new(alloc);
     for word in words {
         list.push(word)?;
@@ -74,7 +74,7 @@ fn traces_are_judged(rt: HostRuntime) -> Result<(), Fail> {
         (
             LEGAL,
             b"e.aadl",
-            b"refused e.aadl 1:1 NotBuilt\n",
+            b"refused e.aadl 1:1 Syntax\n",
             Status::Model,
         ),
         (TICK, b"j.aadl", b"refused t BadLine 2\n", Status::RunFile),
@@ -140,13 +140,15 @@ fn a_sink_that_fails_has_a_part_of_the_text(rt: HostRuntime) -> Result<(), Fail>
 #[test]
 fn words_that_are_no_row_are_refused(rt: HostRuntime) -> Result<(), Fail> {
     let alloc = rt.alloc();
-    let rows: [&[&[u8]]; 6] = [
+    let rows: [&[&[u8]]; 8] = [
         &[],
         &[b"judge", b"j.aadl"],
         &[b"judge", b"j.aadl", b"t", b"t"],
         &[b"Judge", b"j.aadl", b"t"],
         &[b"judge", b"j.aadl", b"\xff"],
         &[b"check", b"j.aadl"],
+        &[b"tidy"],
+        &[b"tidy", b"j.aadl", b"t"],
     ];
     for row in rows {
         let mut store = store_with(alloc, LEGAL)?;
