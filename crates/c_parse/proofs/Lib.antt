@@ -1,3 +1,4 @@
 pub mod Lengths
+pub mod Samples
 pub mod Tokens
 pub mod TypeTexts

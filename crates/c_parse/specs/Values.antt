@@ -1,6 +1,7 @@
 -- What tokens stand for in the grammar.
-use Rattle.std.specs.Prelude.{ℕ, ◌==◌, Bool, true, false, if◌then◌else◌, List, codes, Option, Some, None, is_some}
+use Rattle.std.specs.Prelude.{ℕ, ◌==◌, ◌||◌, nat_le, Bool, true, false, if◌then◌else◌, List, codes, Option, Some, None, is_some}
 use Rattle.std.specs.Str.{bytes_eq}
+use Rattle.hw_text.specs.Reading.{BeginsWithout}
 use Rattle.hw_text.specs.declared.place.Place.{Place}
 use Rattle.hw_text.specs.declared.placed.Placed.{Placed}
 use Rattle.c_tree.specs.declared.integer_type.IntegerType.{IntegerType}
@@ -56,12 +57,18 @@ name_in _ at = None
 abbrev pub name_of : Placed Token → Option Named
 name_of t = name_in t.token t.place
 
+abbrev pub is_name : Placed Token → Bool
+is_name t = is_some (name_of t)
+
 abbrev pub literal_in : Token → Place → Option Literal
 literal_in (token.Literal n) at = Some (record { numeral = n; place = at })
 literal_in _ at = None
 
 abbrev pub literal_of : Placed Token → Option Literal
 literal_of t = literal_in t.token t.place
+
+abbrev pub is_literal : Placed Token → Bool
+is_literal t = is_some (literal_of t)
 
 -- a literal that is spelled `0`
 abbrev pub zero_in : Token → Place → Option Place
@@ -91,6 +98,9 @@ truth_in _ at = None
 abbrev pub truth_of : Placed Token → Option (Place × Bool)
 truth_of t = truth_in t.token t.place
 
+abbrev pub is_truth : Placed Token → Bool
+is_truth t = is_some (truth_of t)
+
 -- the operator that a token is before an operand, and where it stands
 abbrev pub unary_in : Token → Place → Option (Place × UnaryOperator)
 unary_in (token.Mark mark.Minus) at = Some (at, unary.Minus)
@@ -100,6 +110,9 @@ unary_in _ at = None
 
 abbrev pub unary_of : Placed Token → Option (Place × UnaryOperator)
 unary_of t = unary_in t.token t.place
+
+abbrev pub is_unary : Placed Token → Bool
+is_unary t = is_some (unary_of t)
 
 abbrev pub binary_of_mark : Mark → Option BinaryOperator
 binary_of_mark mark.Or = Some binary.Or
@@ -122,14 +135,34 @@ binary_of_mark mark.Slash = Some binary.Divide
 binary_of_mark mark.Percent = Some binary.Remainder
 binary_of_mark _ = None
 
--- the operator of this level that a token is between two operands, and where it stands
+-- the operator that a token is between two operands
+abbrev pub operator_in : Token → Option BinaryOperator
+operator_in (token.Mark m) = binary_of_mark m
+operator_in _ = None
+
 abbrev pub of_level : ℕ → Place → Option BinaryOperator → Option (Place × BinaryOperator)
 of_level n at None = None
 of_level n at (Some operator) = if binary_level operator == n then Some (at, operator) else None
 
-abbrev pub binary_in : ℕ → Token → Place → Option (Place × BinaryOperator)
-binary_in n (token.Mark m) at = of_level n at (binary_of_mark m)
-binary_in n _ at = None
-
+-- the operator of this level that a token is, and where it stands
 abbrev pub binary_at : ℕ → Placed Token → Option (Place × BinaryOperator)
-binary_at n t = binary_in n t.token t.place
+binary_at n t = of_level n t.place (operator_in t.token)
+
+abbrev pub operates : ℕ → Placed Token → Bool
+operates n t = is_some (binary_at n t)
+
+abbrev pub at_least : ℕ → Option BinaryOperator → Bool
+at_least n None = false
+at_least n (Some operator) = nat_le n (binary_level operator)
+
+-- what leads to a part of an lvalue
+abbrev pub is_selector : Placed Token → Bool
+is_selector t = is_mark mark.Dot t || is_mark mark.OpenBracket t
+
+-- a token with which an expression of this level may go on
+abbrev pub goes_on : ℕ → Placed Token → Bool
+goes_on n t = is_selector t || at_least n (operator_in t.token)
+
+-- what stands behind an expression of this level
+abbrev pub Ends : ℕ → Tokens → Type 0
+Ends n = BeginsWithout (goes_on n)
