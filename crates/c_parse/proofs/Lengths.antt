@@ -13,8 +13,8 @@ use Rattle.c_parse.specs.declared.mark.Mark.TheVariants as mark
 use Rattle.c_parse.specs.Tokens.{start}
 use Rattle.c_parse.specs.Values.{Tokens, mark_of, literal_of, is_mark}
 use Rattle.c_parse.specs.ExpressionGrammar.{Sign}
-use Rattle.c_parse.specs.UnitGrammar.{length_of, SpellsLength}
-use Rattle.c_parse.proofs.Tokens.{some-is, none-there}
+use Rattle.c_parse.specs.TypedefGrammar.{length_of, SpellsLength}
+use Rattle.c_parse.proofs.TokenKinds.{some-is, none-there}
 use Rattle.c_parse.proofs.TypeTexts.{a_literal}
 
 abbrev pub is_open : Placed Token → Bool

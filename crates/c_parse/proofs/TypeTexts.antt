@@ -18,9 +18,9 @@ use Rattle.c_parse.specs.declared.mark.Mark.TheVariants as mark
 use Rattle.c_parse.specs.Tokens.{start}
 use Rattle.c_parse.specs.Values.{Tokens, mark_of, keyword_of, name_of, literal_of, integer_of, is_mark, is_word, is_integer}
 use Rattle.c_parse.specs.ExpressionGrammar.{Sign, Name}
-use Rattle.c_parse.specs.StatementGrammar.{Word, SpellsType, integer_name, SpellsSigned, plain_literal, negative_literal}
-use Rattle.c_parse.specs.UnitGrammar.{SpellsLength}
-use Rattle.c_parse.proofs.Tokens.{some-is, not-there, none-there, bool-no-integer, name-no-word, name-no-integer, literal-no-mark, a_sign}
+use Rattle.c_parse.specs.CallGrammar.{Word, SpellsType, integer_name, SpellsSigned, plain_literal, negative_literal}
+use Rattle.c_parse.specs.TypedefGrammar.{SpellsLength}
+use Rattle.c_parse.proofs.TokenKinds.{some-is, not-there, none-there, bool-no-integer, name-no-word, name-no-integer, literal-no-mark}
 
 abbrev IntegerForm : TypeName → Tokens → Type 0
 IntegerForm = Made integer_name (One integer_of)

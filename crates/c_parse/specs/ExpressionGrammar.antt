@@ -19,7 +19,8 @@ use Rattle.c_tree.specs.declared.expression.Expression.TheOpen as layer
 use Rattle.c_tree.specs.declared.expression.Expression.TheVariants.{Number, Truth, Value, Unary, Cast, Binary}
 use Rattle.c_parse.specs.declared.mark.Mark.{Mark}
 use Rattle.c_parse.specs.declared.mark.Mark.TheVariants as mark
-use Rattle.c_parse.specs.Values.{Tokens, mark_of, name_of, literal_of, integer_of, truth_of, unary_of, binary_at}
+use Rattle.c_parse.specs.Values.{Tokens, mark_of, name_of, literal_of, integer_of, truth_of}
+use Rattle.c_parse.specs.Operators.{unary_of, binary_at}
 use Rattle.c_parse.specs.Levels.{prefix_level, loosest_level}
 
 -- this mark

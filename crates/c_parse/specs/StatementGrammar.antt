@@ -1,20 +1,15 @@
 -- The grammar of statements, in the user grammar or the full one (docs/formats/c.md).
 use Rattle.std.specs.Prelude.{◌≡◌, ℕ, ◌+◌, ◌-◌, ◌^◌, ℤ, pos, neg_ℤ, ◌<ℤ◌, Bool, true, false, IsTrue, nat_lt, if◌then◌else◌, List, [], ◌∷◌, ◌++◌, Option, Some, None}
 use Rattle.hw_text.specs.declared.place.Place.{Place}
-use Rattle.hw_text.specs.Language.{One, Nothing, ◌⋅◌, Maybe, Each, Made, ◌∣◌}
+use Rattle.hw_text.specs.Language.{One, ◌⋅◌, Made, ◌∣◌}
 use Rattle.c_tree.specs.declared.integer_type.IntegerType.{IntegerType}
 use Rattle.c_tree.specs.declared.integer_type.IntegerType.TheVariants.{I8, I16, I32, I64, U8, U16, U32, U64}
 use Rattle.c_tree.specs.declared.named.Named.{Named}
 use Rattle.c_tree.specs.declared.named.Literal.{Literal}
 use Rattle.c_tree.specs.declared.named.SignedLiteral.{SignedLiteral}
 use Rattle.c_tree.specs.declared.type_name.TypeName.{TypeName}
-use Rattle.c_tree.specs.declared.type_name.TypeName.TheVariants as class
-use Rattle.c_tree.specs.declared.expression.Argument.{Argument}
-use Rattle.c_tree.specs.declared.expression.Argument.TheVariants as argument
-use Rattle.c_tree.specs.declared.expression.Call.{Call}
 use Rattle.c_tree.specs.declared.expression.Lvalue.{Lvalue}
 use Rattle.c_tree.specs.declared.expression.RightSide.{RightSide}
-use Rattle.c_tree.specs.declared.expression.RightSide.TheVariants as right
 use Rattle.c_tree.specs.declared.statement.LocalValue.{LocalValue}
 use Rattle.c_tree.specs.declared.statement.LocalValue.TheVariants as local
 use Rattle.c_tree.specs.declared.statement.Branch.{Branch}
@@ -23,58 +18,11 @@ use Rattle.c_tree.specs.declared.statement.Otherwise.TheVariants as otherwise
 use Rattle.c_tree.specs.declared.statement.Statement.{Statement}
 use Rattle.c_tree.specs.declared.statement.Statement.TheVariants.{Local, Assign, Call as CallOf, If, Count, Forever, Break}
 use Rattle.c_tree.specs.Numerals.{numeral_value, numeral_type}
-use Rattle.c_parse.specs.declared.keyword.Keyword.{Keyword}
 use Rattle.c_parse.specs.declared.keyword.Keyword.TheVariants as keyword
 use Rattle.c_parse.specs.declared.mark.Mark.TheVariants as mark
-use Rattle.c_parse.specs.Values.{Tokens, keyword_of, name_of, literal_of, zero_of, integer_of}
-use Rattle.c_parse.specs.ExpressionGrammar.{Sign, Name, InFull, SpellsLvalue, SpellsWhole}
-
--- this word
-abbrev pub Word : Keyword → Place → Tokens → Type 0
-Word w = One (keyword_of w)
-
-abbrev pub BehindComma : {X : Type 0} → (X → Tokens → Type 0) → X → Tokens → Type 0
-BehindComma A = Made (λ p. p.1) (Sign mark.Comma ⋅ A)
-
--- [ x { "," x } ]
-abbrev pub Separated : {X : Type 0} → (X → Tokens → Type 0) → List X → Tokens → Type 0
-Separated A [] ts = ts ≡ []
-Separated A (x ∷ xs) ts = (A ⋅ Each (BehindComma A)) (x, xs) ts
-
-abbrev pub integer_name : Place × IntegerType → TypeName
-integer_name p = class.Integer p.0 p.1
-
--- ty: an integer type, `bool` or NAME
-abbrev pub SpellsType : TypeName → Tokens → Type 0
-SpellsType = Made integer_name (One integer_of) ∣ Made class.Truth (Word keyword.Bool) ∣ Made class.Defined Name
-
-abbrev pub plain_literal : Literal → SignedLiteral
-plain_literal l = record { start = l.place; negative = false; literal = l }
-
-abbrev pub negative_literal : Place × Literal → SignedLiteral
-negative_literal p = record { start = p.0; negative = true; literal = p.1 }
-
--- [ "-" ] INT
-abbrev pub SpellsSigned : SignedLiteral → Tokens → Type 0
-SpellsSigned = Made plain_literal (One literal_of) ∣ Made negative_literal (Sign mark.Minus ⋅ One literal_of)
-
-abbrev pub address : Place × Named → Argument
-address p = argument.Address p.0 p.1
-
--- "&" NAME | expr
-abbrev pub SpellsArgument : Bool → Argument → Tokens → Type 0
-SpellsArgument full = Made address (Sign mark.Ampersand ⋅ Name) ∣ Made argument.Value (SpellsWhole full)
-
-abbrev pub call_of : Named × (Place × (List Argument × Place)) → Call
-call_of p = record { name = p.0; arguments = p.1.1.0 }
-
--- NAME "(" [ arg { "," arg } ] ")"
-abbrev pub SpellsCall : Bool → Call → Tokens → Type 0
-SpellsCall full = Made call_of (Name ⋅ Sign mark.OpenParenthesis ⋅ Separated (SpellsArgument full) ⋅ Sign mark.CloseParenthesis)
-
--- call | expr
-abbrev pub SpellsRightSide : Bool → RightSide → Tokens → Type 0
-SpellsRightSide full = Made right.Call (SpellsCall full) ∣ Made right.Value (SpellsWhole full)
+use Rattle.c_parse.specs.Values.{Tokens, literal_of, zero_of, integer_of}
+use Rattle.c_parse.specs.ExpressionGrammar.{Sign, Name, InFull, SpellsLvalue}
+use Rattle.c_parse.specs.CallGrammar.{Word, SpellsType, SpellsSigned, SpellsCall, SpellsRightSide}
 
 -- "{" "0" "}"
 abbrev pub Zeros : Place × (Place × Place) → Tokens → Type 0

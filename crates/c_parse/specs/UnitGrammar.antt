@@ -8,9 +8,6 @@ use Rattle.c_tree.specs.declared.named.SignedLiteral.{SignedLiteral}
 use Rattle.c_tree.specs.declared.type_name.TypeName.{TypeName}
 use Rattle.c_tree.specs.declared.expression.RightSide.{RightSide}
 use Rattle.c_tree.specs.declared.statement.Statement.{Statement}
-use Rattle.c_tree.specs.declared.item.Enumeration.{Enumeration}
-use Rattle.c_tree.specs.declared.item.Member.{Member}
-use Rattle.c_tree.specs.declared.item.Structure.{Structure}
 use Rattle.c_tree.specs.declared.item.InitialValue.{InitialValue}
 use Rattle.c_tree.specs.declared.item.InitialValue.TheVariants as initial
 use Rattle.c_tree.specs.declared.item.Variable.{Variable}
@@ -25,41 +22,11 @@ use Rattle.c_tree.specs.declared.item.Item.TheVariants as item
 use Rattle.c_tree.specs.declared.unit.Unit.{Unit as CUnit}
 use Rattle.c_parse.specs.declared.keyword.Keyword.TheVariants as keyword
 use Rattle.c_parse.specs.declared.mark.Mark.TheVariants as mark
-use Rattle.c_parse.specs.Values.{Tokens, literal_of, truth_of}
+use Rattle.c_parse.specs.Values.{Tokens, truth_of}
 use Rattle.c_parse.specs.ExpressionGrammar.{Sign, Name, InFull}
-use Rattle.c_parse.specs.StatementGrammar.{Word, Separated, BehindComma, SpellsType, SpellsSigned, Zeros, SpellsRightSide, SpellsStatements}
-
-abbrev pub enumeration_of : Place × (Place × (Place × (Named × (List Named × (Place × (Named × Place)))))) → Enumeration
-enumeration_of p = record { first = p.1.1.1.0; others = p.1.1.1.1.0; name = p.1.1.1.1.1.1.0 }
-
--- "typedef" "enum" "{" NAME { "," NAME } "}" NAME ";"
-abbrev pub SpellsEnumeration : Enumeration → Tokens → Type 0
-SpellsEnumeration =
-    Made enumeration_of
-    (Word keyword.Typedef ⋅ Word keyword.Enum ⋅ Sign mark.OpenBrace ⋅ Name ⋅ Each (BehindComma Name) ⋅ Sign mark.CloseBrace ⋅ Name ⋅ Sign mark.Semicolon)
-
-abbrev pub length_of : Place × (Literal × Place) → Literal
-length_of p = p.1.0
-
--- [ "[" INT "]" ]
-abbrev pub SpellsLength : Option Literal → Tokens → Type 0
-SpellsLength = Maybe (Made length_of (Sign mark.OpenBracket ⋅ One literal_of ⋅ Sign mark.CloseBracket))
-
-abbrev pub member_of : TypeName × (Named × (Option Literal × Place)) → Member
-member_of p = record { class = p.0; name = p.1.0; length = p.1.1.0 }
-
--- ty NAME [ "[" INT "]" ] ";"
-abbrev pub SpellsMember : Member → Tokens → Type 0
-SpellsMember = Made member_of (SpellsType ⋅ Name ⋅ SpellsLength ⋅ Sign mark.Semicolon)
-
-abbrev pub structure_of : Place × (Place × (Place × (Member × (List Member × (Place × (Named × Place)))))) → Structure
-structure_of p = record { first = p.1.1.1.0; others = p.1.1.1.1.0; name = p.1.1.1.1.1.1.0 }
-
--- "typedef" "struct" "{" member { member } "}" NAME ";"
-abbrev pub SpellsStructure : Structure → Tokens → Type 0
-SpellsStructure =
-    Made structure_of
-    (Word keyword.Typedef ⋅ Word keyword.Struct ⋅ Sign mark.OpenBrace ⋅ SpellsMember ⋅ Each SpellsMember ⋅ Sign mark.CloseBrace ⋅ Name ⋅ Sign mark.Semicolon)
+use Rattle.c_parse.specs.CallGrammar.{Word, BehindComma, SpellsType, SpellsSigned, SpellsRightSide}
+use Rattle.c_parse.specs.TypedefGrammar.{SpellsEnumeration, SpellsLength, SpellsStructure}
+use Rattle.c_parse.specs.StatementGrammar.{Zeros, SpellsStatements}
 
 abbrev pub initial_truth : Place × Bool → InitialValue
 initial_truth p = initial.Truth p.0 p.1

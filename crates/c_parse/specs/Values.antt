@@ -1,24 +1,18 @@
 -- What tokens stand for in the grammar.
-use Rattle.std.specs.Prelude.{ℕ, ◌==◌, Bool, true, false, if◌then◌else◌, List, codes, Option, Some, None, is_some}
+use Rattle.std.specs.Prelude.{Bool, true, false, List, codes, Option, Some, None, is_some}
 use Rattle.std.specs.Str.{bytes_eq}
 use Rattle.hw_text.specs.declared.place.Place.{Place}
 use Rattle.hw_text.specs.declared.placed.Placed.{Placed}
 use Rattle.c_tree.specs.declared.integer_type.IntegerType.{IntegerType}
 use Rattle.c_tree.specs.declared.named.Named.{Named}
 use Rattle.c_tree.specs.declared.named.Literal.{Literal}
-use Rattle.c_tree.specs.declared.operator.UnaryOperator.{UnaryOperator}
-use Rattle.c_tree.specs.declared.operator.UnaryOperator.TheVariants as unary
-use Rattle.c_tree.specs.declared.operator.BinaryOperator.{BinaryOperator}
-use Rattle.c_tree.specs.declared.operator.BinaryOperator.TheVariants as binary
 use Rattle.c_parse.specs.declared.keyword.Keyword.{Keyword}
 use Rattle.c_parse.specs.declared.keyword.Keyword.TheVariants as keyword
 use Rattle.c_parse.specs.declared.mark.Mark.{Mark}
-use Rattle.c_parse.specs.declared.mark.Mark.TheVariants as mark
 use Rattle.c_parse.specs.declared.token.Token.{Token}
 use Rattle.c_parse.specs.declared.token.Token.TheVariants as token
 use Rattle.c_parse.specs.Keywords.{keyword_text}
 use Rattle.c_parse.specs.Marks.{mark_text}
-use Rattle.c_parse.specs.Levels.{binary_level}
 
 abbrev pub Tokens : Type 0
 Tokens = List (Placed Token)
@@ -56,12 +50,18 @@ name_in _ at = None
 abbrev pub name_of : Placed Token → Option Named
 name_of t = name_in t.token t.place
 
+abbrev pub is_name : Placed Token → Bool
+is_name t = is_some (name_of t)
+
 abbrev pub literal_in : Token → Place → Option Literal
 literal_in (token.Literal n) at = Some (record { numeral = n; place = at })
 literal_in _ at = None
 
 abbrev pub literal_of : Placed Token → Option Literal
 literal_of t = literal_in t.token t.place
+
+abbrev pub is_literal : Placed Token → Bool
+is_literal t = is_some (literal_of t)
 
 -- a literal that is spelled `0`
 abbrev pub zero_in : Token → Place → Option Place
@@ -91,45 +91,5 @@ truth_in _ at = None
 abbrev pub truth_of : Placed Token → Option (Place × Bool)
 truth_of t = truth_in t.token t.place
 
--- the operator that a token is before an operand, and where it stands
-abbrev pub unary_in : Token → Place → Option (Place × UnaryOperator)
-unary_in (token.Mark mark.Minus) at = Some (at, unary.Minus)
-unary_in (token.Mark mark.Bang) at = Some (at, unary.Not)
-unary_in (token.Mark mark.Tilde) at = Some (at, unary.Complement)
-unary_in _ at = None
-
-abbrev pub unary_of : Placed Token → Option (Place × UnaryOperator)
-unary_of t = unary_in t.token t.place
-
-abbrev pub binary_of_mark : Mark → Option BinaryOperator
-binary_of_mark mark.Or = Some binary.Or
-binary_of_mark mark.And = Some binary.And
-binary_of_mark mark.Bar = Some binary.BitOr
-binary_of_mark mark.Caret = Some binary.BitXor
-binary_of_mark mark.Ampersand = Some binary.BitAnd
-binary_of_mark mark.Equal = Some binary.Equal
-binary_of_mark mark.NotEqual = Some binary.NotEqual
-binary_of_mark mark.Less = Some binary.Less
-binary_of_mark mark.LessOrEqual = Some binary.LessOrEqual
-binary_of_mark mark.Greater = Some binary.Greater
-binary_of_mark mark.GreaterOrEqual = Some binary.GreaterOrEqual
-binary_of_mark mark.ShiftLeft = Some binary.ShiftLeft
-binary_of_mark mark.ShiftRight = Some binary.ShiftRight
-binary_of_mark mark.Plus = Some binary.Add
-binary_of_mark mark.Minus = Some binary.Subtract
-binary_of_mark mark.Star = Some binary.Multiply
-binary_of_mark mark.Slash = Some binary.Divide
-binary_of_mark mark.Percent = Some binary.Remainder
-binary_of_mark _ = None
-
--- the operator of this level that a token is between two operands, and where it stands
-abbrev pub of_level : ℕ → Place → Option BinaryOperator → Option (Place × BinaryOperator)
-of_level n at None = None
-of_level n at (Some operator) = if binary_level operator == n then Some (at, operator) else None
-
-abbrev pub binary_in : ℕ → Token → Place → Option (Place × BinaryOperator)
-binary_in n (token.Mark m) at = of_level n at (binary_of_mark m)
-binary_in n _ at = None
-
-abbrev pub binary_at : ℕ → Placed Token → Option (Place × BinaryOperator)
-binary_at n t = binary_in n t.token t.place
+abbrev pub is_truth : Placed Token → Bool
+is_truth t = is_some (truth_of t)

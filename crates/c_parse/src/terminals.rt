@@ -7,7 +7,8 @@ ghost use Rattle.c_parse.specs.declared.keyword.Keyword.TheVariants as keyword;
 ghost use Rattle.c_parse.specs.declared.mark.Mark.TheVariants as mark;
 ghost use Rattle.c_parse.specs.declared.token.Token.TheVariants as token;
 ghost use Rattle.c_parse.specs.Tokens.{start};
-ghost use Rattle.c_parse.specs.Values.{name_of, literal_of, integer_of, truth_of, unary_of};
+ghost use Rattle.c_parse.specs.Values.{name_of, literal_of, integer_of, truth_of};
+ghost use Rattle.c_parse.specs.Operators.{unary_of};
 
 use crate::keyword::Keyword;
 use crate::leaf::Terminal;

@@ -4,8 +4,8 @@ ghost use Rattle.std.specs.Prelude.{◌≡◌};
 ghost use Rattle.hw_text.specs.Reading.{Reads, Anything, BeginsWithout, begins};
 ghost use Rattle.c_parse.specs.declared.mark.Mark.TheVariants as mark;
 ghost use Rattle.c_parse.specs.Values.{is_mark, is_integer, integer_of};
-ghost use Rattle.c_parse.specs.StatementGrammar.{SpellsType, SpellsSigned};
-ghost use Rattle.c_parse.specs.UnitGrammar.{SpellsLength};
+ghost use Rattle.c_parse.specs.CallGrammar.{SpellsType, SpellsSigned};
+ghost use Rattle.c_parse.specs.TypedefGrammar.{SpellsLength};
 
 use crate::keyword::Keyword;
 use crate::leaf::{read_one, sign, stands};

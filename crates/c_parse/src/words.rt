@@ -3,7 +3,7 @@
 ghost use Rattle.std.specs.Prelude.{◌≡◌};
 ghost use Rattle.hw_text.specs.Reading.{Reads, Anything, ahead, begins};
 ghost use Rattle.c_parse.specs.Values.{keyword_of, is_word};
-ghost use Rattle.c_parse.specs.StatementGrammar.{Word};
+ghost use Rattle.c_parse.specs.CallGrammar.{Word};
 
 use crate::keyword::Keyword;
 use crate::token::Token;

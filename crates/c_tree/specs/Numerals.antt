@@ -1,7 +1,7 @@
 -- Integer literals (ISO/IEC 9899:2011, 6.4.4.1), without those in base eight: a decimal number without leading zeros or `0x` and hex
 -- digits, and then maybe `u`, `l`, `ll`, `ul` or `ull`, each letter in either case (docs/formats/c.md).
-use Rattle.std.specs.Prelude.{ℕ, ◌+◌, ◌-◌, ◌*◌, ◌^◌, Bool, true, false, ◌&&◌, ◌||◌, ◌==◌, nat_lt, nat_le, if◌then◌else◌, List, [], ◌∷◌, drop, Option, Some, None, is_some}
-use Rattle.hw_text.specs.Name.{is_digit, is_letter_or_digit}
+use Rattle.std.specs.Prelude.{ℕ, ◌+◌, ◌-◌, ◌*◌, Bool, true, false, ◌&&◌, ◌||◌, ◌==◌, nat_le, if◌then◌else◌, List, [], ◌∷◌, drop, Option, Some, None, is_some}
+use Rattle.hw_text.specs.Name.{is_digit}
 use Rattle.c_tree.specs.declared.byte_class.ByteClass.{ByteClass}
 use Rattle.c_tree.specs.declared.byte_class.ByteClass.TheVariants.{Zero, Digit, HexDigit, BaseMark, Unsigned, Long}
 use Rattle.c_tree.specs.declared.integer_type.IntegerType.{IntegerType}

@@ -149,7 +149,6 @@ fn print_sign(
     }
 }
 
-/// Where the operand of an operator stands.
 fn position_behind(operator: UnaryOperator) -> Position
     ensures { result ≡ position_behind operator }
 {

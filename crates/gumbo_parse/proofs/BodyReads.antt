@@ -26,7 +26,7 @@ plus-one n = omega arith
 abbrev spanned : Bool → ℕ → ℕ
 spanned b n = if b then 0 else n + 1
 
-none-before : (u : Placed Token) (us : Tokens) → is_mark mark.Semicolon u.token ≡ false → NoSemicolon us → NoSemicolon (u ∷ us)
+pub none-before : (u : Placed Token) (us : Tokens) → is_mark mark.Semicolon u.token ≡ false → NoSemicolon us → NoSemicolon (u ∷ us)
 none-before u us other_mark more = λ other. ap (λ (b : Bool). spanned b (span (us ++ other))) other_mark ∙ omega (arith, more other)
 
 abbrev before : Tokens → Tokens
@@ -106,7 +106,7 @@ drop-past (u ∷ us) n other =
     ap (λ (m : ℕ). drop m (u ∷ us ++ other)) e ∙ drop-past us n other
 
 -- with no semicolon before it, the rest goes on by itself
-body-split : (us other : Tokens) → NoSemicolon us → body (us ++ other) ≡ ended (after other) ((readers (length us + span other)).expression 0 (us ++ before other))
+pub body-split : (us other : Tokens) → NoSemicolon us → body (us ++ other) ≡ ended (after other) ((readers (length us + span other)).expression 0 (us ++ before other))
 body-split us other none =
     ap (λ (n : ℕ). ended (drop n (us ++ other)) ((readers n).expression 0 (take n (us ++ other)))) (none other) ∙
     ap (λ (v : Tokens). ended v ((readers (length us + span other)).expression 0 (take (length us + span other) (us ++ other)))) (drop-past us (span other) other) ∙

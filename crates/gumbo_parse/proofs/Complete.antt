@@ -83,7 +83,7 @@ unary-reach k m t u ts rest o is le found =
     (next (primary (readers k) (t ∷ ts)) (λ x us. Ok (record { place = t.place; level = 8; expression = x }, us)))) (λ o us. (readers k).chain m o us)) (prefix-tight m t.token u is le) ∙
     ap (λ (a : Answer Operand). next (next a (λ x us. Ok (record { place = t.place; level = unary_level u; expression = Unary t.place u x.expression }, us))) (λ o us. (readers k).chain m o us)) found
 
-operator-no-mark : (m : Mark) (t : Token) (o : BinaryOperator) → binary_of (token.Mark m) ≡ None → binary_of t ≡ Some o → (b : Bool) → is_mark m t ≡ b → b ≡ false
+pub operator-no-mark : (m : Mark) (t : Token) (o : BinaryOperator) → binary_of (token.Mark m) ≡ None → binary_of t ≡ Some o → (b : Bool) → is_mark m t ≡ b → b ≡ false
 operator-no-mark m t o none some false e = refl
 operator-no-mark m t o none some true e = let no : binary_of t ≡ None = ap binary_of (is_mark-true m t e) ∙ none in cc
 

@@ -1,3 +1,4 @@
+pub mod CompleteAnnex
 pub mod ParseLaws
 pub mod AnnexReads
 pub mod ClauseReads
