@@ -4,11 +4,13 @@
 mod annex_text;
 mod byte;
 mod choice;
+mod classes;
 mod flaw;
 mod leaf;
 mod lexer;
 mod made;
 mod name_token;
+mod names;
 mod number;
 mod part;
 mod quoted_text;
