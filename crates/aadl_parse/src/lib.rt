@@ -16,6 +16,7 @@ mod part;
 mod quoted_text;
 mod repeat;
 mod sequence;
+mod section_rows;
 mod shape;
 mod stop;
 mod surround;
