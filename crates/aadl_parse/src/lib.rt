@@ -1,6 +1,9 @@
 //! The reader of models, from their bytes.
 #![tactic(auto)]
 
+mod value_text;
+mod associations;
+mod paths;
 mod annex_text;
 mod byte;
 mod choice;
@@ -8,6 +11,7 @@ mod classes;
 mod flaw;
 mod leaf;
 mod lexer;
+mod list;
 mod made;
 mod name_token;
 mod names;
