@@ -1,17 +1,19 @@
 -- What has been read of parts that stand there or not, or several times.
 use Rattle.std.proofs.Common.{◌≡◌, ◌∙◌, refl, sym, ap, subst, ℕ, ◌<◌, ◌≤◌, length, length-append, arith, List, [], ◌∷◌, ◌++◌, Bool, true, false, Option, Some, None, append_assoc, append-nil}
-use Rattle.std.specs.Prelude.{⊤}
+use Rattle.std.specs.Prelude.{⊤, Result, Ok, Err}
 use Rattle.std.proofs.lemmas.Bool.{false≢true}
 use Rattle.hw_text.specs.Language.{Nothing, ◌⋅◌, Maybe, Each, Made}
-use Rattle.hw_text.specs.Reading.{first, begins, Begins, Reached, Stuck, Leaves}
+use Rattle.hw_text.specs.Reading.{first, begins, Begins, Reached, Stuck, Reads, Leaves}
 use Rattle.hw_text.proofs.Reading.{begun, unmade, some, none, more, no_more, rebuilt, ended, step, stuck, last, last-stuck, never-begins, never-follows}
 use Rattle.hw_text.specs.declared.placed.Placed.{Placed}
+use Rattle.hw_text.specs.declared.read_fault.ReadFault.{ReadFault}
+use Rattle.hw_text.specs.declared.read_fault.ReadFault.TheVariants.{Syntax, NoMemory}
 use Rattle.aadl_tree.specs.declared.token.Token.{Token}
 use Rattle.aadl_parse.specs.Shapes.{one_of, Without, is_disjoint}
 use Rattle.aadl_parse.specs.Laws.{begins-without, without-left, without-right}
 
 module _ {X : Type 0} (A : X → List (Placed Token) → Type 0) (starts goes_on : List (List ℕ)) (is : Begins (one_of starts) true A) where
-  F : List (Placed Token) → Type 0
+  abbrev F : List (Placed Token) → Type 0
   F = Without (starts ++ goes_on)
 
   module _ (before : List (Placed Token)) where
@@ -19,20 +21,16 @@ module _ {X : Type 0} (A : X → List (Placed Token) → Type 0) (starts goes_on
     maybe = begun (Maybe A) F before (λ o. o) (Maybe A) (λ z w text. (z, refl, text)) (λ y w text. text)
 
     pub absent : begins (one_of starts) before ≡ false → Reached (Maybe A) F before before None
-    unfolding F
     absent not_there = ended (Maybe A) F before before (λ (u : ⊤). None)
       (none (Maybe A) F before before A (λ o. o) (λ x w m text follows same. never-begins (one_of starts) A before is not_there x w m text same) maybe)
 
     present : begins (one_of starts) before ≡ true → Leaves (Maybe A) F before before (λ x. Some x) A
-    unfolding F
     present there = some (Maybe A) F before before A (λ o. o) (λ m follows same. never-follows (one_of starts) before there m (without-left starts goes_on m follows) same) maybe
 
     pub present-stuck : (after : List (Placed Token)) → begins (one_of starts) before ≡ true → Stuck A (Without goes_on) before after → Stuck (Maybe A) F before after
-    unfolding F
     present-stuck after there part = last-stuck (Maybe A) F before A (Without goes_on) before after (λ x. Some x) (present there) (λ m follows. without-right starts goes_on m follows) part
 
     pub present-read : (after : List (Placed Token)) (x : X) → begins (one_of starts) before ≡ true → Reached A (Without goes_on) before after x → Reached (Maybe A) F before after (Some x)
-    unfolding F
     present-read after x there part = last (Maybe A) F before A (Without goes_on) before after (λ x. Some x) (present there) (λ m follows. without-right starts goes_on m follows) x part
 
   each-follows : is_disjoint starts goes_on ≡ true → (xs : List X) (w m : List (Placed Token)) → Each A xs w → Without (starts ++ goes_on) m → Without goes_on (w ++ m)
@@ -44,9 +42,6 @@ module _ {X : Type 0} (A : X → List (Placed Token) → Type 0) (starts goes_on
 
   -- some members have been read
   module _ (earlier : List X) (before : List (Placed Token)) where
-    Members : List X → List (Placed Token) → Type 0
-    Members = Made (λ later. earlier ++ later) (Each A)
-
     pub members-begun : Leaves (Made (λ later. earlier ++ later) (Each A)) (Without (starts ++ goes_on)) before before (λ later. earlier ++ later) (Each A)
     members-begun = begun (Made (λ later. earlier ++ later) (Each A)) (Without (starts ++ goes_on)) before (λ later. earlier ++ later) (Each A) (λ z w text. text) (λ y w text. (y, refl, text))
 
@@ -91,3 +86,12 @@ module _ {T X : Type 0} (A : X → List T → Type 0) (F : List T → Type 0) (b
     split = so.split;
     goes_on = (so.goes_on.0, so.goes_on.1, subst (λ (y : X). A y (so.taken ++ so.goes_on.1)) (sym so.goes_on.2.1) so.goes_on.2.2);
     none = λ y w m n text follows same looked. so.none y w m n (y, refl, text) follows same looked }
+
+  pub unchanged : (result : Result X ReadFault) → Reads (Made (λ y. y) A) F before after result → Reads A F before after result
+  unchanged (Ok x) so = unchanged-read x so
+  unchanged (Err Syntax) so = unchanged-stuck so
+  unchanged (Err NoMemory) so = tt
+
+pub from-none : {T X : Type 0} (A : List X → List T → Type 0) (F : List T → Type 0) (before after : List T) (earlier : List X) → earlier ≡ [] → (result : Result (List X) ReadFault) → Reads (Made (λ later. earlier ++ later) A) F before after result → Reads A F before after result
+from-none {T} {X} A F before after earlier none result so =
+    unchanged A F before after result (subst (λ (xs : List X). Reads (Made (λ later. xs ++ later) A) F before after result) none so)

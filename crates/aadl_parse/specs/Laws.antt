@@ -7,6 +7,7 @@ use Rattle.std.proofs.lemmas.Slice.Eq.{bytes_eq-Decides}
 use Rattle.std.proofs.lemmas.Bool.{false≢true}
 use Rattle.hw_text.specs.Language.{One, ◌⋅◌, Maybe, Each, Made, ◌∣◌}
 use Rattle.hw_text.specs.Reading.{first, begins, Begins}
+use Rattle.hw_text.proofs.Reading.{maybe-begins, each-begins}
 use Rattle.hw_text.specs.declared.placed.Placed.{Placed}
 use Rattle.aadl_tree.specs.declared.token.Token.{Token}
 use Rattle.aadl_parse.specs.Shapes.{shape, one_of, Without, is_disjoint, found, symbol_of}
@@ -69,12 +70,12 @@ or-true : (b : Bool) → (b || true) ≡ true
 or-true true = refl
 or-true false = refl
 
+begins_either-right : {X : Type 0} (A : X → List (Placed Token) → Type 0) (xs ys : List (List ℕ)) → Begins (one_of ys) true A → Begins (one_of (xs ++ ys)) true A
+begins_either-right A xs ys is x w m text = begins-append xs ys (w ++ m) ∙ ap (λ (b : Bool). begins (one_of xs) (w ++ m) || b) (is x w m text) ∙ or-true (begins (one_of xs) (w ++ m))
+
 module _ {X : Type 0} (A : X → List (Placed Token) → Type 0) where
   pub begins-either-left : (xs ys : List (List ℕ)) → Begins (one_of xs) true A → Begins (one_of (xs ++ ys)) true A
   begins-either-left xs ys is x w m text = begins-append xs ys (w ++ m) ∙ ap (λ (b : Bool). b || begins (one_of ys) (w ++ m)) (is x w m text)
-
-  pub begins-either-right : (xs ys : List (List ℕ)) → Begins (one_of ys) true A → Begins (one_of (xs ++ ys)) true A
-  begins-either-right xs ys is x w m text = begins-append xs ys (w ++ m) ∙ ap (λ (b : Bool). begins (one_of xs) (w ++ m) || b) (is x w m text) ∙ or-true (begins (one_of xs) (w ++ m))
 
   -- a text that begins so is none that begins in another way
   pub begins-without : (xs ys : List (List ℕ)) → is_disjoint xs ys ≡ true → Begins (one_of xs) true A → Begins (one_of ys) false A
@@ -89,6 +90,12 @@ module _ {X : Type 0} (A : X → List (Placed Token) → Type 0) where
 
     pub maybe-sample : ((y : Y) × (w : List (Placed Token)) × B y w) → (p : Option X × Y) × (w : List (Placed Token)) × (Maybe A ⋅ B) p w
     maybe-sample b = ((None, b.0), b.1, ([], b.1, refl, refl, b.2))
+
+    pub maybe_then-begins : (xs ys : List (List ℕ)) → Begins (one_of xs) true A → Begins (one_of ys) true B → Begins (one_of (xs ++ ys)) true (Maybe A ⋅ B)
+    maybe_then-begins xs ys one other = maybe-begins (one_of (xs ++ ys)) true A B (begins-either-left xs ys one) (begins_either-right B xs ys other)
+
+    pub each_then-begins : (xs ys : List (List ℕ)) → Begins (one_of xs) true A → Begins (one_of ys) true B → Begins (one_of (xs ++ ys)) true (Each A ⋅ B)
+    each_then-begins xs ys one other = each-begins (one_of (xs ++ ys)) true A B (begins-either-left xs ys one) (begins_either-right B xs ys other)
 
     pub each-sample : ((y : Y) × (w : List (Placed Token)) × B y w) → (p : List X × Y) × (w : List (Placed Token)) × (Each A ⋅ B) p w
     each-sample b = (([], b.0), b.1, ([], b.1, refl, refl, b.2))
@@ -120,3 +127,11 @@ symbol-shaped text t u e = found-true (one_of (text ∷ []) t) u e
 
 pub symbol-sample : (text : List ℕ) → ((t : Placed Token) × (shape t.token ≡ text)) → (t : Placed Token) × (u : ⊤) × (symbol_of text t ≡ Some u)
 symbol-sample text s = (s.0, tt, ap (λ (b : Bool). found (b || false)) ((bytes_eq-Decides (shape s.0.token) text).1 s.1))
+
+module _ {X Y Z : Type 0} (A : X → List (Placed Token) → Type 0) (B : Y → List (Placed Token) → Type 0) (one : X → Z) (two : Y → Z) where
+  pub either-sample : ((x : X) × (w : List (Placed Token)) × A x w) → (z : Z) × (w : List (Placed Token)) × (Made one A ∣ Made two B) z w
+  either-sample a = (one a.0, a.1, inl (a.0, refl, a.2))
+
+  pub either-begins : (xs ys : List (List ℕ)) → Begins (one_of xs) true A → Begins (one_of ys) true B → Begins (one_of (xs ++ ys)) true (Made one A ∣ Made two B)
+  either-begins xs ys a b z w m text =
+      elim text [ inl made ↦ begins-either-left A xs ys a made.0 w m made.2 | inr made ↦ begins_either-right B xs ys b made.0 w m made.2 ]

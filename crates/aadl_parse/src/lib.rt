@@ -11,6 +11,7 @@ mod quoted_text;
 mod repeat;
 mod sequence;
 mod stop;
+mod surround;
 mod word;
 
 pub use lexer::{Lexed, read_tokens};
