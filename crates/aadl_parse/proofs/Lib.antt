@@ -1,5 +1,7 @@
 mod Annexes
+mod Choices
 mod Flawless
 mod Repeats
 mod Sequences
+mod SomeOf
 mod Spelling

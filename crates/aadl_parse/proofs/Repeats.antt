@@ -22,7 +22,7 @@ module _ {X : Type 0} (A : X → List (Placed Token) → Type 0) (starts goes_on
 
     pub absent : begins (one_of starts) before ≡ false → Reached (Maybe A) F before before None
     absent not_there = ended (Maybe A) F before before (λ (u : ⊤). None)
-      (none (Maybe A) F before before A (λ o. o) (λ x w m text follows same. never-begins (one_of starts) A before is not_there x w m text same) maybe)
+        (none (Maybe A) F before before A (λ o. o) (λ x w m text follows same. never-begins (one_of starts) A before is not_there x w m text same) maybe)
 
     present : begins (one_of starts) before ≡ true → Leaves (Maybe A) F before before (λ x. Some x) A
     present there = some (Maybe A) F before before A (λ o. o) (λ m follows same. never-follows (one_of starts) before there m (without-left starts goes_on m follows) same) maybe
@@ -33,12 +33,12 @@ module _ {X : Type 0} (A : X → List (Placed Token) → Type 0) (starts goes_on
     pub present-read : (after : List (Placed Token)) (x : X) → begins (one_of starts) before ≡ true → Reached A (Without goes_on) before after x → Reached (Maybe A) F before after (Some x)
     present-read after x there part = last (Maybe A) F before A (Without goes_on) before after (λ x. Some x) (present there) (λ m follows. without-right starts goes_on m follows) x part
 
-  each-follows : is_disjoint starts goes_on ≡ true → (xs : List X) (w m : List (Placed Token)) → Each A xs w → Without (starts ++ goes_on) m → Without goes_on (w ++ m)
+  pub each-follows : is_disjoint starts goes_on ≡ true → (xs : List X) (w m : List (Placed Token)) → Each A xs w → Without (starts ++ goes_on) m → Without goes_on (w ++ m)
   each-follows apart [] w m text follows = subst (λ (l : List (Placed Token)). Without goes_on (l ++ m)) (sym text) (without-right starts goes_on m follows)
   each-follows apart (x ∷ xs) w m text follows =
       subst (λ (l : List (Placed Token)). Without goes_on l)
-        (sym (append_assoc text.0 text.1 m) ∙ ap (λ (l : List (Placed Token)). l ++ m) (sym text.2))
-        (begins-without A starts goes_on apart is x text.0 (text.1 ++ m) text.3)
+      (sym (append_assoc text.0 text.1 m) ∙ ap (λ (l : List (Placed Token)). l ++ m) (sym text.2))
+      (begins-without A starts goes_on apart is x text.0 (text.1 ++ m) text.3)
 
   -- some members have been read
   module _ (earlier : List X) (before : List (Placed Token)) where
@@ -48,7 +48,7 @@ module _ {X : Type 0} (A : X → List (Placed Token) → Type 0) (starts goes_on
     module _ (at : List (Placed Token)) (members : List X) (so : Leaves (Made (λ later. earlier ++ later) (Each A)) (Without (starts ++ goes_on)) before at (λ later. members ++ later) (Each A)) where
       pub members-read : begins (one_of starts) at ≡ false → Reached (Made (λ later. earlier ++ later) (Each A)) (Without (starts ++ goes_on)) before at members
       members-read not_there = subst (λ (xs : List X). Reached (Made (λ later. earlier ++ later) (Each A)) (Without (starts ++ goes_on)) before at xs) (append-nil members)
-        (ended (Made (λ later. earlier ++ later) (Each A)) (Without (starts ++ goes_on)) before at (λ (u : ⊤). members ++ [])
+          (ended (Made (λ later. earlier ++ later) (Each A)) (Without (starts ++ goes_on)) before at (λ (u : ⊤). members ++ [])
           (no_more (Made (λ later. earlier ++ later) (Each A)) (Without (starts ++ goes_on)) before at A (λ later. members ++ later) (λ x w m text same. never-begins (one_of starts) A at is not_there x w m text same) so))
 
       module _ (apart : is_disjoint starts goes_on ≡ true) (there : begins (one_of starts) at ≡ true) where
@@ -60,8 +60,8 @@ module _ {X : Type 0} (A : X → List (Placed Token) → Type 0) (starts goes_on
 
         pub members-more : (after : List (Placed Token)) (x : X) (new : List X) → new ≡ members ++ x ∷ [] → Reached A (Without goes_on) at after x → Leaves (Made (λ later. earlier ++ later) (Each A)) (Without (starts ++ goes_on)) before after (λ later. new ++ later) (Each A)
         members-more after x new is_new part = rebuilt (Made (λ later. earlier ++ later) (Each A)) (Without (starts ++ goes_on)) before after (λ later. members ++ (x ∷ later)) (λ later. new ++ later) (Each A)
-          (λ later. sym (append_assoc members (x ∷ []) later) ∙ ap (λ (xs : List X). xs ++ later) (sym is_new))
-          (step (Made (λ later. earlier ++ later) (Each A)) (Without (starts ++ goes_on)) before A (Without goes_on) at after (λ p. members ++ (p.0 ∷ p.1)) (Each A) one_more (each-follows apart) x part)
+            (λ later. sym (append_assoc members (x ∷ []) later) ∙ ap (λ (xs : List X). xs ++ later) (sym is_new))
+            (step (Made (λ later. earlier ++ later) (Each A)) (Without (starts ++ goes_on)) before A (Without goes_on) at after (λ p. members ++ (p.0 ∷ p.1)) (Each A) one_more (each-follows apart) x part)
 
   -- a text that was read took a token at least
   pub read-shorter : (G : List (Placed Token) → Type 0) (before after : List (Placed Token)) (x : X) → Reached A G before after x → length after < length before
@@ -78,14 +78,16 @@ module _ {T X : Type 0} (A : X → List T → Type 0) (F : List T → Type 0) (b
     taken = so.taken;
     split = so.split;
     spelled = subst (λ (y : X). A y so.taken) (sym so.spelled.1) so.spelled.2;
-    only = λ y w m n text follows same looked. so.only y w m n (y, refl, text) follows same looked }
+    only = λ y w m n text follows same looked. so.only y w m n (y, refl, text) follows same looked;
+  }
 
   pub unchanged-stuck : Stuck (Made (λ y. y) A) F before after → Stuck A F before after
   unchanged-stuck so = record {
     taken = so.taken;
     split = so.split;
     goes_on = (so.goes_on.0, so.goes_on.1, subst (λ (y : X). A y (so.taken ++ so.goes_on.1)) (sym so.goes_on.2.1) so.goes_on.2.2);
-    none = λ y w m n text follows same looked. so.none y w m n (y, refl, text) follows same looked }
+    none = λ y w m n text follows same looked. so.none y w m n (y, refl, text) follows same looked;
+  }
 
   pub unchanged : (result : Result X ReadFault) → Reads (Made (λ y. y) A) F before after result → Reads A F before after result
   unchanged (Ok x) so = unchanged-read x so

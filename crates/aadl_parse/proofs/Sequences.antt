@@ -46,8 +46,8 @@ module _ {X : Type 0} (B : X → List (Placed Token) → Type 0) (before starts 
   each-follows [] w m text f = subst (λ (l : List (Placed Token)). Without before (l ++ m)) (sym text) (without-left before (starts ++ goes_on) m f)
   each-follows (x ∷ xs) w m text f =
       subst (λ (l : List (Placed Token)). Without before l)
-        (sym (append_assoc text.0 text.1 m) ∙ ap (λ (l : List (Placed Token)). l ++ m) (sym text.2))
-        (begins-without B starts before apart is x text.0 (text.1 ++ m) text.3)
+      (sym (append_assoc text.0 text.1 m) ∙ ap (λ (l : List (Placed Token)). l ++ m) (sym text.2))
+      (begins-without B starts before apart is x text.0 (text.1 ++ m) text.3)
 
   pub rest-ends : (m : List (Placed Token)) → Without (before ++ (starts ++ goes_on)) m → Without (starts ++ goes_on) m
   rest-ends m f = without-right before (starts ++ goes_on) m f

@@ -135,3 +135,12 @@ module _ {X Y Z : Type 0} (A : X → List (Placed Token) → Type 0) (B : Y → 
   pub either-begins : (xs ys : List (List ℕ)) → Begins (one_of xs) true A → Begins (one_of ys) true B → Begins (one_of (xs ++ ys)) true (Made one A ∣ Made two B)
   either-begins xs ys a b z w m text =
       elim text [ inl made ↦ begins-either-left A xs ys a made.0 w m made.2 | inr made ↦ begins_either-right B xs ys b made.0 w m made.2 ]
+
+pub both-none : (xs ys : List (List ℕ)) → xs ≡ [] → ys ≡ [] → xs ++ ys ≡ []
+both-none xs ys one other = ap (λ (l : List (List ℕ)). l ++ ys) one ∙ other
+
+pub some_of-sample : {X : Type 0} (A : X → List (Placed Token) → Type 0) → ((x : X) × (w : List (Placed Token)) × A x w) → (xs : List X) × (w : List (Placed Token)) × Made (λ (p : X × List X). p.0 ∷ p.1) (A ⋅ Each A) xs w
+some_of-sample A a = (a.0 ∷ [], a.1 ++ [], ((a.0, []), refl, (a.1, [], refl, a.2, refl)))
+
+pub some_of-begins : {X : Type 0} (A : X → List (Placed Token) → Type 0) (xs : List (List ℕ)) → Begins (one_of xs) true A → Begins (one_of xs) true (Made (λ (p : X × List X). p.0 ∷ p.1) (A ⋅ Each A))
+some_of-begins {X} A xs is = made-begins (A ⋅ Each A) (λ (p : X × List X). p.0 ∷ p.1) xs (two-begins A (Each A) xs is)

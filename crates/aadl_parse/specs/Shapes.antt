@@ -1,16 +1,18 @@
 -- The shape of a token: what the grammar shows of it, which is its spelling for a word or mark, and its kind for another.
-use Rattle.std.specs.Prelude.{◌≡◌, ℕ, Bool, true, false, ◌&&◌, not, List, [], ◌∷◌, codes, Option, Some, None, ⊤}
+use Rattle.std.specs.Prelude.{◌≡◌, ℕ, Bool, true, false, ◌&&◌, not, List, [], ◌∷◌, codes, Option, Some, None, ⊤, if◌then◌else◌}
 use Rattle.std.specs.List.{list_any}
 use Rattle.std.specs.Str.{bytes_eq}
 use Rattle.hw_text.specs.declared.placed.Placed.{Placed}
 use Rattle.hw_text.specs.Reading.{BeginsWithout}
 use Rattle.aadl_tree.specs.declared.token.Token.{Token}
 use Rattle.aadl_tree.specs.declared.token.Token.TheVariants as token
+use Rattle.aadl_tree.specs.Classes.{is_base_package}
 use Rattle.aadl_tree.specs.Marks.{mark_spelling}
 use Rattle.aadl_tree.specs.Words.{word_spelling}
 
+-- the name `base_types` has a shape of its own, since behind it stands a base type in a classifier
 abbrev pub shape : Token → List ℕ
-shape (token.Name n) = codes "NAME"
+shape (token.Name n) = if is_base_package n then codes "base_types" else codes "NAME"
 shape (token.Word w) = word_spelling w
 shape (token.Integer n) = codes "INT"
 shape (token.Real r) = codes "REAL"

@@ -27,10 +27,8 @@ pub struct Flawed {
 
 /// The first token with which something is wrong.
 pub fn first_flawed(tokens: &[Placed<Token>]) -> Option<Flawed>
-    ensures {
-        MatchOption result ((k : ℕ) → flaw_at tokens.now k ≡ None)
-            (λ f. (flaw_at tokens.now f.index ≡ Some f.flaw) × ((k : ℕ) → k < f.index → flaw_at tokens.now k ≡ None))
-    }
+    ensures { MatchOption result ((k : ℕ) → flaw_at tokens.now k ≡ None)
+        (λ f. (flaw_at tokens.now f.index ≡ Some f.flaw) × ((k : ℕ) → k < f.index → flaw_at tokens.now k ≡ None)) }
 {
     let mut depth = 0;
     for (index, placed) in tokens.iter().enumerate() {

@@ -3,13 +3,17 @@
 
 mod annex_text;
 mod byte;
+mod choice;
 mod flaw;
+mod leaf;
 mod lexer;
+mod made;
 mod number;
 mod part;
 mod quoted_text;
 mod repeat;
 mod sequence;
+mod shape;
 mod stop;
 mod surround;
 mod word;

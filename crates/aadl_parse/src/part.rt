@@ -29,10 +29,7 @@ pub trait Part {
         ensures { result ≡ begins (one_of starts) tokens.now };
 
     /// Reads a text of the part.
-    fn read(
-        alloc: Global,
-        tokens: &mut Cursor<'_, Placed<Token>>,
-    ) -> Result<Self::Value, ReadFault>
+    fn read(alloc: Global, tokens: &mut Cursor<'_, Placed<Token>>) -> Result<Self::Value, ReadFault>
         ensures { Reads spells (Without goes_on) tokens.old tokens.new result };
 
     ghost sample: { (x : Self.Value) × (w : List (Placed Token)) × spells x w };

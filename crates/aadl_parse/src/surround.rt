@@ -1,11 +1,11 @@
 //! Parts of a grammar before which or behind which others stand, or not, or several times.
 
-ghost use Rattle.std.specs.Prelude.{◌++◌};
-ghost use Rattle.hw_text.specs.Language.{◌⋅◌, Maybe, Each};
-ghost use Rattle.aadl_parse.specs.Laws.{two-begins, maybe-sample, maybe_then-begins, each-sample, each_then-begins, with_maybe-sample, with_each-sample};
+ghost use Rattle.std.specs.Prelude.{◌++◌, ◌∷◌};
+ghost use Rattle.hw_text.specs.Language.{◌⋅◌, Maybe, Each, Made};
+ghost use Rattle.aadl_parse.specs.Laws.{two-begins, maybe-sample, maybe_then-begins, each-sample, each_then-begins, with_maybe-sample, with_each-sample, some_of-sample, some_of-begins};
 
 use crate::part::{Behind, Beside, Closed, Part};
-use crate::repeat::{each, optional};
+use crate::repeat::{each, members, optional};
 use aadl_tree::Token;
 use hw_text::{Cursor, Placed, ReadFault, Rows};
 use std::alloc::Global;
@@ -145,4 +145,37 @@ impl<A: Part, B: Behind<A> + Beside<A> + Closed> Closed for OptionalThen<A, B> {
 
 impl<A: Part + Behind<A>, B: Behind<A> + Beside<A> + Closed> Closed for ManyThen<A, B> {
     ghost closed = { B.Closed.closed };
+}
+
+/// A part once or more.
+pub struct AtLeastOne<A> {
+    part: PhantomData<A>,
+}
+
+impl<A: Part + Behind<A>> Part for AtLeastOne<A> {
+    type Value = Rows<A::Value>;
+
+    ghost spells = { Made (λ p. p.0 ∷ p.1) (A.Part.spells ⋅ Each A.Part.spells) };
+
+    ghost starts = { A.Part.starts };
+
+    ghost goes_on = { A.Part.starts ++ A.Part.goes_on };
+
+    fn stands(tokens: &Cursor<'_, Placed<Token>>) -> bool {
+        A::stands(tokens)
+    }
+
+    fn read(
+        alloc: Global,
+        tokens: &mut Cursor<'_, Placed<Token>>,
+    ) -> Result<Self::Value, ReadFault> {
+        let first = A::read(alloc, tokens)?;
+        let mut started = Rows::new(alloc);
+        started.push(first)?;
+        members::<A>(alloc, tokens, started)
+    }
+
+    ghost sample = { some_of-sample A.Part.spells A.Part.sample };
+
+    ghost begun = { some_of-begins A.Part.spells A.Part.starts A.Part.begun };
 }

@@ -11,7 +11,7 @@ pub returns-in_err-member : goal.returns-in_err-member
 returns-in_err-member g c =
     failed _ _ _ _ _ _ _ _ _ c.from_residual.ensures.1 c.in_err-member.ensures
     (members-stuck g.A.Part.spells g.A.Part.starts g.A.Part.goes_on g.met.A.Part.begun c.args.earlier _ _ c.members.members c.members.invariant
-      g.met.A.Behind.apart (sym c.stands.ensures ∙ c.members-test.true) _)
+    g.met.A.Behind.apart (sym c.stands.ensures ∙ c.members-test.true) _)
 
 pub members-smaller : goal.members-smaller
 members-smaller g c = read-shorter g.A.Part.spells g.A.Part.starts g.A.Part.goes_on g.met.A.Part.begun (Without g.A.Part.goes_on) _ _ _ c.in_ok-member.ensures
@@ -19,9 +19,9 @@ members-smaller g c = read-shorter g.A.Part.spells g.A.Part.starts g.A.Part.goes
 pub members-preserved : goal.members-preserved
 members-preserved g c =
     members-more g.A.Part.spells g.A.Part.starts g.A.Part.goes_on g.met.A.Part.begun c.args.earlier _ _ c.members.members c.members.invariant
-      g.met.A.Behind.apart (sym c.stands.ensures ∙ c.members-test.true) _ _ _ c.in_ok-push.ensures.ok c.in_ok-member.ensures
+    g.met.A.Behind.apart (sym c.stands.ensures ∙ c.members-test.true) _ _ _ c.in_ok-push.ensures.ok c.in_ok-member.ensures
 
 pub returns : goal.returns
 returns g c =
     members-read g.A.Part.spells g.A.Part.starts g.A.Part.goes_on g.met.A.Part.begun c.args.earlier _ _ c.members.members c.members.invariant
-      (sym c.stands.ensures ∙ c.members-test.false)
+    (sym c.stands.ensures ∙ c.members-test.false)
