@@ -3,3 +3,4 @@ pub mod Fronts
 pub mod Laws
 pub mod Shapes
 pub mod Stops
+pub mod Terminals

@@ -8,6 +8,7 @@ mod flaw;
 mod leaf;
 mod lexer;
 mod made;
+mod name_token;
 mod number;
 mod part;
 mod quoted_text;
@@ -16,7 +17,9 @@ mod sequence;
 mod shape;
 mod stop;
 mod surround;
+mod symbol;
 mod word;
+mod word_token;
 
 pub use lexer::{Lexed, read_tokens};
 pub use stop::Stop;
