@@ -144,3 +144,10 @@ some_of-sample A a = (a.0 ∷ [], a.1 ++ [], ((a.0, []), refl, (a.1, [], refl, a
 
 pub some_of-begins : {X : Type 0} (A : X → List (Placed Token) → Type 0) (xs : List (List ℕ)) → Begins (one_of xs) true A → Begins (one_of xs) true (Made (λ (p : X × List X). p.0 ∷ p.1) (A ⋅ Each A))
 some_of-begins {X} A xs is = made-begins (A ⋅ Each A) (λ (p : X × List X). p.0 ∷ p.1) xs (two-begins A (Each A) xs is)
+
+module _ {X : Type 0} (A B : X → List (Placed Token) → Type 0) where
+  pub one_and_each-sample : ((x : X) × (w : List (Placed Token)) × A x w) → (xs : List X) × (w : List (Placed Token)) × Made (λ (p : X × List X). p.0 ∷ p.1) (A ⋅ Each B) xs w
+  one_and_each-sample a = (a.0 ∷ [], a.1 ++ [], ((a.0, []), refl, (a.1, [], refl, a.2, refl)))
+
+  pub one_and_each-begins : (xs : List (List ℕ)) → Begins (one_of xs) true A → Begins (one_of xs) true (Made (λ (p : X × List X). p.0 ∷ p.1) (A ⋅ Each B))
+  one_and_each-begins xs is = made-begins (A ⋅ Each B) (λ (p : X × List X). p.0 ∷ p.1) xs (two-begins A (Each B) xs is)

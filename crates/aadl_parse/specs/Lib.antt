@@ -1,3 +1,4 @@
+pub mod Builds
 pub mod Flaws
 pub mod Fronts
 pub mod Laws

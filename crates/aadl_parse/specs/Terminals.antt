@@ -8,6 +8,9 @@ use Rattle.hw_text.specs.declared.place.Place.{Place}
 use Rattle.hw_text.specs.declared.placed.Placed.{Placed}
 use Rattle.aadl_tree.specs.declared.token.Token.{Token}
 use Rattle.aadl_tree.specs.declared.token.Token.TheVariants as token
+use Rattle.aadl_tree.specs.declared.mark.Mark.TheVariants as mark
+use Rattle.aadl_tree.specs.declared.association.Operator.{Operator}
+use Rattle.aadl_tree.specs.declared.association.Operator.TheVariants as operator
 use Rattle.aadl_tree.specs.declared.word.Word.{Word}
 use Rattle.aadl_tree.specs.declared.word.Word.TheVariants as word
 use Rattle.aadl_tree.specs.declared.names.Named.{Named}
@@ -97,6 +100,23 @@ annex_body_at _ at = None
 
 abbrev pub annex_body_of : Placed Token → Option (Option (List ℕ) × Place)
 annex_body_of t = annex_body_at t.token t.place
+
+abbrev pub operator_at : Token → Option Operator
+operator_at (token.Mark mark.Association) = Some operator.Set
+operator_at (token.Mark mark.Addition) = Some operator.Append
+operator_at _ = None
+
+abbrev pub operator_of : Placed Token → Option Operator
+operator_of t = operator_at t.token
+
+operator_at-shaped : (t : Token) (x : Operator) → operator_at t ≡ Some x → list_any (bytes_eq (shape t)) (codes "=>" ∷ codes "+=>" ∷ []) ≡ true
+operator_at-shaped (token.Mark mark.Association) x e = refl
+operator_at-shaped (token.Mark mark.Addition) x e = refl
+operator_at-shaped (token.Mark _) x e = absurd (never_some x e)
+operator_at-shaped _ x e = absurd (never_some x e)
+
+pub operator-shaped : (t : Placed Token) (x : Operator) → operator_of t ≡ Some x → one_of (codes "=>" ∷ codes "+=>" ∷ []) t ≡ true
+operator-shaped t x e = operator_at-shaped t.token x e
 
 name-either : (b : Bool) → list_any (bytes_eq (if b then codes "base_types" else codes "NAME")) name_shapes ≡ true
 name-either true = refl
