@@ -5,3 +5,5 @@ mod Repeats
 mod Sequences
 mod SomeOf
 mod Spelling
+mod ThreeParts
+mod ValueReads

@@ -41,7 +41,8 @@ type_of category p = record {
   features = or_none p.1.0;
   properties = or_none p.1.1.0;
   annexes = p.1.1.1.0;
-  end_name = p.1.1.1.1.1.0 }
+  end_name = p.1.1.1.1.1.0;
+}
 
 -- the name, subcomponents, connections, properties, annexes, and the name behind "end"
 abbrev pub ImplementationParts : Type 0
@@ -55,7 +56,8 @@ implementation_of category p = record {
   connections = or_none p.1.1.1.0;
   properties = or_none p.1.1.1.1.0;
   annexes = p.1.1.1.1.1.0;
-  end_name = p.1.1.1.1.1.1.1.0 }
+  end_name = p.1.1.1.1.1.1.1.0;
+}
 
 abbrev pub component_of : Category → Choice ImplementationParts TypeParts → Declaration
 component_of category (First p) = declaration.Implementation (implementation_of category p)
