@@ -7,3 +7,4 @@ mod SomeOf
 mod Spelling
 mod ThreeParts
 mod ValueReads
+mod QuantityReads

@@ -1,11 +1,11 @@
 -- What has been read of a value, step by step.
-use Rattle.std.proofs.Common.{◌≡◌, ◌∙◌, Result, Ok, Err, refl, sym, ap, subst, ℕ, List, [], ◌∷◌, ◌++◌, codes, Bool, true, false, Option, Some, None, inl, inr}
+use Rattle.std.proofs.Common.{◌≡◌, ◌∙◌, Result, Ok, Err, refl, sym, ap, subst, ℕ, List, [], ◌∷◌, ◌++◌, codes, true, false, Some, None, inl, inr}
 use Rattle.std.specs.Prelude.{⊤}
 use Rattle.std.proofs.lemmas.Bool.{false≢true}
 use Rattle.hw_text.specs.declared.placed.Placed.{Placed}
-use Rattle.hw_text.specs.Language.{One, ◌⋅◌, Made, ◌∣◌, Each, Maybe}
+use Rattle.hw_text.specs.Language.{◌⋅◌, Made, ◌∣◌, Each, Maybe}
 use Rattle.hw_text.specs.Reading.{first, begins, Begins, Reached, Stuck, Reads, Leaves}
-use Rattle.hw_text.proofs.Reading.{begun, left, right, unmade, rebuilt, step, stuck, last, last-stuck, never-begins, never-follows, first-begins}
+use Rattle.hw_text.proofs.Reading.{begun, left, right, unmade, rebuilt, step, stuck, last, last-stuck, never-begins, first-begins}
 use Rattle.aadl_tree.specs.declared.mark.Mark.TheVariants as mark
 use Rattle.aadl_tree.specs.declared.token.Token.{Token}
 use Rattle.aadl_tree.specs.declared.token.Token.TheVariants as token

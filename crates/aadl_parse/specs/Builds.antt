@@ -1,6 +1,5 @@
 -- What is made of the parts of productions.
-use Rattle.std.specs.Prelude.{List, [], ◌∷◌, Option, Some, None, Bool, true, false, is_some, ⊤}
-use Rattle.hw_text.specs.declared.placed.Placed.{Placed}
+use Rattle.std.specs.Prelude.{List, [], Option, Some, None, ⊤}
 use Rattle.aadl_tree.specs.declared.annex.Annex.{Annex}
 use Rattle.aadl_tree.specs.declared.association.Association.{Association}
 use Rattle.aadl_tree.specs.declared.category.Category.{Category}

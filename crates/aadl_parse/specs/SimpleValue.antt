@@ -1,5 +1,5 @@
 -- The grammar of the values that have no other values in them (docs/formats/model.md).
-use Rattle.std.specs.Prelude.{◌≡◌, ℕ, true, List, [], ◌∷◌, ◌++◌, codes, Option, Some, None, ⊤, refl, Bool}
+use Rattle.std.specs.Prelude.{ℕ, true, List, [], ◌∷◌, ◌++◌, codes, Option, Some, None, ⊤, refl, Bool}
 use Rattle.std.proofs.Common.{inl, inr}
 use Rattle.hw_text.specs.declared.place.Place.{Place}
 use Rattle.hw_text.specs.declared.placed.Placed.{Placed}
@@ -86,9 +86,6 @@ range_of p = range_with p.0 p.1
 abbrev pub SpellsRange : PropertyValue → List (Placed Token) → Type 0
 SpellsRange = Made range_of (SpellsQuantity ⋅ Maybe (Symbol (codes "..") ⋅ SpellsQuantity))
 
-abbrev pub text_value : List ℕ → PropertyValue
-text_value t = value.Text t
-
 abbrev pub truth_value : Bool → PropertyValue
 truth_value b = value.Truth b
 
@@ -117,7 +114,7 @@ abbrev pub SpellsNameValue : PropertyValue → List (Placed Token) → Type 0
 SpellsNameValue = Made name_value SpellsQualified
 
 abbrev pub SpellsTextValue : PropertyValue → List (Placed Token) → Type 0
-SpellsTextValue = Made text_value (One text_of)
+SpellsTextValue = One text_of
 
 abbrev pub SpellsTruthValue : PropertyValue → List (Placed Token) → Type 0
 SpellsTruthValue = Made truth_value (One truth_of)
@@ -221,7 +218,7 @@ telling-begun = choice-begun SpellsTruthValue SpellsNaming truth_shapes naming_s
 
 pub quoting-begun : Begins (one_of quoting_starts) true SpellsQuoting
 quoting-begun = choice-begun SpellsTextValue SpellsTelling text_shapes telling_starts
-    (made-begins (One text_of) text_value text_shapes (one-begins text_of text_shapes text-shaped)) telling-begun
+    (one-begins text_of text_shapes text-shaped) telling-begun
 
 -- each such value begins so
 pub simple-begun : Begins (one_of simple_starts) true SpellsSimple

@@ -1,5 +1,5 @@
 -- How the texts of values begin.
-use Rattle.std.specs.Prelude.{◌≡◌, ℕ, true, List, [], ◌∷◌, ◌++◌, codes, ⊤}
+use Rattle.std.specs.Prelude.{◌≡◌, ℕ, true, List, [], ◌∷◌, ◌++◌, codes}
 use Rattle.std.proofs.Common.{Bool, false, ◌||◌, refl, ap, ◌∙◌, inl, inr}
 use Rattle.hw_text.specs.declared.placed.Placed.{Placed}
 use Rattle.hw_text.specs.Reading.{begins, Begins}

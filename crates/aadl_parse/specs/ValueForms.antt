@@ -1,14 +1,14 @@
 -- The productions of values, each as its parts.
-use Rattle.std.proofs.Common.{◌≡◌, ◌∙◌, refl, sym, ap, subst, ℕ, List, [], ◌∷◌, ◌++◌, codes, Option, Some, None, inl, inr}
-use Rattle.std.specs.Prelude.{◌⊎◌, ⊤}
+use Rattle.std.proofs.Common.{◌≡◌, ◌∙◌, refl, sym, ap, subst, List, [], ◌∷◌, ◌++◌, codes, Option, Some, None, inl, inr}
+use Rattle.std.specs.Prelude.{⊤}
 use Rattle.hw_text.specs.declared.placed.Placed.{Placed}
 use Rattle.hw_text.specs.Language.{◌⋅◌, Made, ◌∣◌, Each, Maybe}
 use Rattle.aadl_tree.specs.declared.token.Token.{Token}
 use Rattle.aadl_tree.specs.declared.value.PropertyValue.{PropertyValue}
 use Rattle.aadl_tree.specs.declared.value.PropertyValue.TheVariants as value
 use Rattle.aadl_tree.specs.declared.value.RecordField.{RecordField}
-use Rattle.aadl_parse.specs.SimpleValue.{Symbol, SpellsSimple, SpellsFieldName}
-use Rattle.aadl_parse.specs.ValueText.{SpellsValue, simple, list, set, SpellsMembers, no_members, members, SpellsFurther, no_further, further, SpellsFields, no_fields, fields, SpellsNext, SpellsFirst, SpellsEach, SpellsField, second_of, first_of, members_of, field_of}
+use Rattle.aadl_parse.specs.SimpleValue.{Symbol, SpellsSimple}
+use Rattle.aadl_parse.specs.ValueText.{SpellsValue, simple, list, set, SpellsMembers, no_members, members, SpellsFurther, no_further, further, SpellsFields, no_fields, fields, SpellsNext, SpellsFirst, SpellsEach, SpellsField, members_of, field_of}
 
 abbrev pub list_of : ⊤ × (List PropertyValue × ⊤) → PropertyValue
 list_of p = value.List p.1.0

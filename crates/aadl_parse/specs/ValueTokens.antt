@@ -13,6 +13,8 @@ use Rattle.aadl_tree.specs.declared.value.Sign.{Sign}
 use Rattle.aadl_tree.specs.declared.value.Sign.TheVariants as sign
 use Rattle.aadl_tree.specs.declared.value.Number.{Number}
 use Rattle.aadl_tree.specs.declared.value.Number.TheVariants as number
+use Rattle.aadl_tree.specs.declared.value.PropertyValue.{PropertyValue}
+use Rattle.aadl_tree.specs.declared.value.PropertyValue.TheVariants as value
 use Rattle.aadl_parse.specs.Shapes.{shape, one_of}
 
 never_some : {X : Type 0} (x : X) → None ≡ Some x → ⊥
@@ -60,18 +62,18 @@ number-shaped t x e = number_at-shaped t.token x e
 abbrev pub text_shapes : List (List ℕ)
 text_shapes = codes "STRING" ∷ []
 
-abbrev pub text_at : Token → Option (List ℕ)
-text_at (token.Text t) = Some t
+abbrev pub text_at : Token → Option PropertyValue
+text_at (token.Text t) = Some (value.Text t)
 text_at _ = None
 
-abbrev pub text_of : Placed Token → Option (List ℕ)
+abbrev pub text_of : Placed Token → Option PropertyValue
 text_of t = text_at t.token
 
-text_at-shaped : (t : Token) (x : List ℕ) → text_at t ≡ Some x → list_any (bytes_eq (shape t)) text_shapes ≡ true
+text_at-shaped : (t : Token) (x : PropertyValue) → text_at t ≡ Some x → list_any (bytes_eq (shape t)) text_shapes ≡ true
 text_at-shaped (token.Text t) x e = refl
 text_at-shaped _ x e = absurd (never_some x e)
 
-pub text-shaped : (t : Placed Token) (x : List ℕ) → text_of t ≡ Some x → one_of text_shapes t ≡ true
+pub text-shaped : (t : Placed Token) (x : PropertyValue) → text_of t ≡ Some x → one_of text_shapes t ≡ true
 text-shaped t x e = text_at-shaped t.token x e
 
 abbrev pub truth_shapes : List (List ℕ)

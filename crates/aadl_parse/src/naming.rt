@@ -13,7 +13,7 @@ use aadl_tree::{PropertyValue, Token};
 use hw_text::{Cursor, Placed, ReadFault};
 use std::alloc::Global;
 
-impl Beside<ClassifierValue> for ReferenceValue {
+impl Beside<ClassifierValue> for Text<ReferenceValue> {
     ghost other = { refl };
 }
 
@@ -21,7 +21,7 @@ impl Beside<ClassifierValue> for ReferenceValue {
 pub struct Referring;
 
 impl Production for Referring {
-    type Parts = Either<ClassifierValue, ReferenceValue>;
+    type Parts = Either<ClassifierValue, Text<ReferenceValue>>;
 
     type Value = PropertyValue;
 

@@ -1,29 +1,14 @@
-//! The productions of values that are one text, truth or name.
+//! The productions of values that are one truth or name.
 
-ghost use Rattle.aadl_parse.specs.SimpleValue.{text_value, truth_value, name_value};
+ghost use Rattle.aadl_parse.specs.SimpleValue.{truth_value, name_value};
 
 use crate::leaf::Leaf;
 use crate::made::{Production, Text};
 use crate::names::QualifiedText;
 use crate::part::Part;
-use crate::value_token::{TextToken, TruthWord};
+use crate::value_token::TruthWord;
 use aadl_tree::PropertyValue;
 use std::alloc::Global;
-
-/// STRING
-pub struct TextValue;
-
-impl Production for TextValue {
-    type Parts = Leaf<TextToken>;
-
-    type Value = PropertyValue;
-
-    ghost build = { text_value };
-
-    fn build(_alloc: Global, parts: <Self::Parts as Part>::Value) -> Self::Value {
-        PropertyValue::Text(parts)
-    }
-}
 
 /// "true" | "false"
 pub struct TruthValue;

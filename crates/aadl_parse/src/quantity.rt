@@ -1,51 +1,46 @@
 //! The productions of numbers with signs and units, and of ranges.
 
 ghost use Rattle.std.specs.Prelude.{refl};
+ghost use Rattle.std.specs.Prelude.{◌≡◌};
+ghost use Rattle.hw_text.specs.Reading.{Reads, begins};
+ghost use Rattle.aadl_parse.specs.Shapes.{one_of, Without};
 ghost use Rattle.aadl_parse.specs.Terminals.{name_shapes};
-ghost use Rattle.aadl_parse.specs.SimpleValue.{quantity_of, range_of, SpellsQuantity, SpellsRange, quantity_starts, range_goes_on, a_quantity, a_range, quantity-begun, range-begun};
+ghost use Rattle.aadl_parse.specs.SimpleValue.{range_of, SpellsQuantity, SpellsRange, quantity_starts, range_goes_on, a_quantity, a_range, quantity-begun, range-begun};
 
 use crate::leaf::Leaf;
 use crate::made::{Production, Text};
 use crate::name_token::BareName;
-use crate::part::{Behind, Beside, Part};
+use crate::part::{Behind, Part};
+use crate::repeat::optional;
 use crate::sequence::Then;
 use crate::shape::Sign;
-use crate::surround::{OptionalThen, WithOptional};
+use crate::surround::WithOptional;
 use crate::symbol::operators::Range;
 use crate::value_token::{NumberToken, SignMark};
 use aadl_tree::{PropertyValue, Quantity, Token};
 use hw_text::{Cursor, Placed, ReadFault};
 use std::alloc::Global;
 
-impl Behind<Leaf<NumberToken>> for Leaf<BareName> {
-    ghost apart = { refl };
-}
-
-/// ( INT | REAL ) [ NAME ]
-type WithUnit = WithOptional<Leaf<NumberToken>, Leaf<BareName>>;
-
-impl Behind<Leaf<SignMark>> for WithUnit {
-    ghost apart = { refl };
-}
-
-impl Beside<Leaf<SignMark>> for WithUnit {
-    ghost other = { refl };
-}
-
 /// [ "+" | "-" ] ( INT | REAL ) [ NAME ]
 pub struct QuantityText;
 
-impl Production for QuantityText {
-    type Parts = OptionalThen<Leaf<SignMark>, WithUnit>;
+/// Reads a number, with what stands beside it.
+fn read_quantity(
+    alloc: Global,
+    tokens: &mut Cursor<'_, Placed<Token>>,
+) -> Result<Quantity, ReadFault>
+    ensures { Reads SpellsQuantity (Without name_shapes) tokens.old tokens.new result }
+{
+    let sign = optional::<Leaf<SignMark>>(alloc, tokens)?;
+    let number = Leaf::<NumberToken>::read(alloc, tokens)?;
+    let unit = optional::<Leaf<BareName>>(alloc, tokens)?;
+    Ok(Quantity { sign, number, unit })
+}
 
-    type Value = Quantity;
-
-    ghost build = { quantity_of };
-
-    fn build(_alloc: Global, parts: <Self::Parts as Part>::Value) -> Self::Value {
-        let (sign, (number, unit)) = parts;
-        Quantity { sign, number, unit }
-    }
+fn quantity_stands(tokens: &Cursor<'_, Placed<Token>>) -> bool
+    ensures { result ≡ begins (one_of quantity_starts) tokens.now }
+{
+    Leaf::<SignMark>::stands(tokens) || Leaf::<NumberToken>::stands(tokens)
 }
 
 impl Part for QuantityText {
@@ -58,14 +53,14 @@ impl Part for QuantityText {
     ghost goes_on = { name_shapes };
 
     fn stands(tokens: &Cursor<'_, Placed<Token>>) -> bool {
-        <Text<QuantityText>>::stands(tokens)
+        quantity_stands(tokens)
     }
 
     fn read(
         alloc: Global,
         tokens: &mut Cursor<'_, Placed<Token>>,
     ) -> Result<Self::Value, ReadFault> {
-        <Text<QuantityText>>::read(alloc, tokens)
+        read_quantity(alloc, tokens)
     }
 
     ghost sample = { a_quantity };

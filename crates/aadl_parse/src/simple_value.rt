@@ -5,11 +5,13 @@ ghost use Rattle.aadl_parse.specs.Builds.{either_of};
 ghost use Rattle.aadl_parse.specs.SimpleValue.{SpellsTelling, SpellsQuoting, SpellsSimple, telling_starts, quoting_starts, simple_starts, naming_goes_on, value_goes_on, a_telling, a_quoting, a_simple, telling-begun, quoting-begun, simple-begun};
 
 use crate::choice::{Either, either_of};
+use crate::leaf::Leaf;
 use crate::made::{Production, Text};
 use crate::naming::Naming;
 use crate::part::{Beside, Part};
-use crate::plain_value::{TextValue, TruthValue};
+use crate::plain_value::TruthValue;
 use crate::quantity::RangeValue;
+use crate::value_token::TextToken;
 use aadl_tree::{PropertyValue, Token};
 use hw_text::{Cursor, Placed, ReadFault};
 use std::alloc::Global;
@@ -58,7 +60,7 @@ impl Part for Telling {
     ghost begun = { telling-begun };
 }
 
-impl Beside<Text<TextValue>> for Telling {
+impl Beside<Leaf<TextToken>> for Text<Telling> {
     ghost other = { refl };
 }
 
@@ -66,7 +68,7 @@ impl Beside<Text<TextValue>> for Telling {
 pub struct Quoting;
 
 impl Production for Quoting {
-    type Parts = Either<Text<TextValue>, Telling>;
+    type Parts = Either<Leaf<TextToken>, Text<Telling>>;
 
     type Value = PropertyValue;
 
@@ -102,7 +104,7 @@ impl Part for Quoting {
     ghost begun = { quoting-begun };
 }
 
-impl Beside<RangeValue> for Quoting {
+impl Beside<Text<RangeValue>> for Quoting {
     ghost other = { refl };
 }
 
@@ -110,7 +112,7 @@ impl Beside<RangeValue> for Quoting {
 pub struct SimpleValue;
 
 impl Production for SimpleValue {
-    type Parts = Either<RangeValue, Quoting>;
+    type Parts = Either<Text<RangeValue>, Quoting>;
 
     type Value = PropertyValue;
 

@@ -6,12 +6,13 @@ ghost use Rattle.aadl_tree.specs.declared.mark.Mark.TheVariants as mark;
 ghost use Rattle.aadl_tree.specs.declared.word.Word.TheVariants as word;
 ghost use Rattle.aadl_tree.specs.declared.value.Sign.TheVariants as sign;
 ghost use Rattle.aadl_tree.specs.declared.value.Number.TheVariants as number;
+ghost use Rattle.aadl_tree.specs.declared.value.PropertyValue.TheVariants as value;
 ghost use Rattle.aadl_parse.specs.Stops.{start};
 ghost use Rattle.aadl_parse.specs.ValueTokens.{sign_shapes, sign_of, sign-shaped, number_shapes, number_of, number-shaped, text_shapes, text_of, text-shaped, truth_shapes, truth_of, truth-shaped};
 
 use crate::leaf::Terminal;
 use crate::shape::shape;
-use aadl_tree::{Integer, Mark, Number, Quoted, Real, Sign, Token, Word};
+use aadl_tree::{Integer, Mark, Number, PropertyValue, Quoted, Real, Sign, Token, Word};
 use hw_text::{NoMemory, Placed};
 use std::alloc::Global;
 
@@ -81,7 +82,7 @@ impl Terminal for NumberToken {
 pub struct TextToken;
 
 impl Terminal for TextToken {
-    type Value = Quoted;
+    type Value = PropertyValue;
 
     ghost value = { text_of };
 
@@ -93,12 +94,12 @@ impl Terminal for TextToken {
 
     fn value(alloc: Global, token: &Placed<Token>) -> Result<Option<Self::Value>, NoMemory> {
         match &token.token {
-            Token::Text(text) => Ok(Some(Quoted::of(alloc, text.rows())?)),
+            Token::Text(text) => Ok(Some(PropertyValue::Text(Quoted::of(alloc, text.rows())?))),
             _ => Ok(None),
         }
     }
 
-    ghost sample = { (record { token = token.Text []; place = start }, [], refl) };
+    ghost sample = { (record { token = token.Text []; place = start }, value.Text [], refl) };
 
     ghost shaped = { text-shaped };
 }

@@ -1,4 +1,4 @@
-use Rattle.std.proofs.Common.{◌≡◌, ◌∙◌, sym, ap, subst, refl, arith, List, [], ◌∷◌, ◌++◌, codes}
+use Rattle.std.proofs.Common.{◌∙◌, sym, ap, subst, refl, arith, List, [], ◌∷◌, ◌++◌, codes}
 use Rattle.hw_text.specs.Language.{Each}
 use Rattle.hw_text.specs.Reading.{Reached}
 use Rattle.hw_text.proofs.Reading.{failed}
@@ -48,7 +48,7 @@ pub read_first-returns-in_err-first : goal.read_first-returns-in_err-first
 read_first-returns-in_err-first t c = failed _ _ _ _ _ _ _ _ _ c.from_residual.ensures.1 c.in_err-first.ensures (first-value-stuck _ _)
 
 pub read_first-returns : goal.read_first-returns
-read_first-returns t c = first-reads _ _ _ c.in_ok-first.ensures _ (c.in_ok-push.ensures.ok ∙ ap (λ (l : List PropertyValue). l ++ c.in_ok-first.field-0 ∷ []) c.new-values.ensures) _ _ c.read_others.ensures
+read_first-returns t c = first-reads _ _ _ c.in_ok-first.ensures _ (c.in_ok-push.ensures.ok ∙ ap (λ (l : List PropertyValue). l ++ c.in_ok-first.first ∷ []) c.new-values.ensures) _ _ c.read_others.ensures
 
 pub read_others-returns-in_err-value : goal.read_others-returns-in_err-value
 read_others-returns-in_err-value t c = failed _ _ _ _ _ _ _ _ _ c.from_residual.ensures.1 c.in_err-value.ensures (members-stuck SpellsNext (codes "," ∷ []) value_goes_on next-begun c.args.earlier _ _ c.members.values c.members.invariant.0 refl (sym c.stands.ensures ∙ c.members-test.true) _)
