@@ -1,6 +1,7 @@
 mod Annexes
 mod Choices
 mod Flawless
+mod OneAndEach
 mod Repeats
 mod Sequences
 mod SomeOf

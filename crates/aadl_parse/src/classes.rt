@@ -14,7 +14,8 @@ use crate::sequence::Then;
 use crate::shape::Sign;
 use crate::surround::{WithMany, WithOptional};
 use crate::symbol::points::DoubleColon;
-use aadl_tree::{Class, ModelClass};
+use aadl_tree::{Class, ModelClass, Token};
+use hw_text::{Cursor, Placed, ReadFault};
 use std::alloc::Global;
 
 /// "base_types" "::" BASE
@@ -81,4 +82,29 @@ impl Production for ClassText {
     fn build(_alloc: Global, parts: <Self::Parts as Part>::Value) -> Self::Value {
         either_of(parts)
     }
+}
+
+impl Part for ClassText {
+    type Value = Class;
+
+    ghost spells = { ⟦<Text<ClassText> as Part>⟧.spells };
+
+    ghost starts = { ⟦<Text<ClassText> as Part>⟧.starts };
+
+    ghost goes_on = { ⟦<Text<ClassText> as Part>⟧.goes_on };
+
+    fn stands(tokens: &Cursor<'_, Placed<Token>>) -> bool {
+        <Text<ClassText>>::stands(tokens)
+    }
+
+    fn read(
+        alloc: Global,
+        tokens: &mut Cursor<'_, Placed<Token>>,
+    ) -> Result<Self::Value, ReadFault> {
+        <Text<ClassText>>::read(alloc, tokens)
+    }
+
+    ghost sample = { ⟦<Text<ClassText> as Part>⟧.sample };
+
+    ghost begun = { ⟦<Text<ClassText> as Part>⟧.begun };
 }

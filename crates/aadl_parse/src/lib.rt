@@ -2,19 +2,25 @@
 #![tactic(auto)]
 
 mod annex_text;
+mod associations;
 mod byte;
 mod choice;
 mod classes;
+mod features;
 mod field_name;
 mod flaw;
 mod leaf;
 mod lexer;
+mod list;
 mod made;
 mod name_token;
 mod names;
 mod naming;
 mod number;
+mod own;
 mod part;
+mod parts_of_implementations;
+mod paths;
 mod plain_value;
 mod quantity;
 mod quoted_text;
