@@ -6,3 +6,6 @@ mod Repeats
 mod Sequences
 mod SomeOf
 mod Spelling
+mod ThreeParts
+mod ValueReads
+mod QuantityReads

@@ -22,7 +22,7 @@ module _ {X : Type 0} (A B : X → List (Placed Token) → Type 0) (ends starts 
   module _ (at : List (Placed Token)) (x : X) (head : Reached A (Without ends) before at x) where
     headed : Leaves (Made (λ (p : X × List X). p.0 ∷ p.1) (A ⋅ Each B)) (Without (ends ++ (starts ++ goes_on))) before at (λ (xs : List X). xs) (Made (λ (later : List X). x ∷ later) (Each B))
     headed = remade (Made (λ (p : X × List X). p.0 ∷ p.1) (A ⋅ Each B)) (Without (ends ++ (starts ++ goes_on))) before at (λ (xs : List X). xs) (λ (later : List X). x ∷ later) (Each B)
-      (step (Made (λ (p : X × List X). p.0 ∷ p.1) (A ⋅ Each B)) (Without (ends ++ (starts ++ goes_on))) before A (Without ends) before at (λ (p : X × List X). p.0 ∷ p.1) (Each B) all (each-follows B ends starts goes_on apart is) x head)
+        (step (Made (λ (p : X × List X). p.0 ∷ p.1) (A ⋅ Each B)) (Without (ends ++ (starts ++ goes_on))) before A (Without ends) before at (λ (p : X × List X). p.0 ∷ p.1) (Each B) all (each-follows B ends starts goes_on apart is) x head)
 
     tail-read : (after : List (Placed Token)) (result : Result (List X) ReadFault) → Reads (Made (λ (later : List X). x ∷ later) (Each B)) (Without (starts ++ goes_on)) at after result → Reads (Made (λ (p : X × List X). p.0 ∷ p.1) (A ⋅ Each B)) (Without (ends ++ (starts ++ goes_on))) before after result
     tail-read after (Ok xs) part = last (Made (λ (p : X × List X). p.0 ∷ p.1) (A ⋅ Each B)) (Without (ends ++ (starts ++ goes_on))) before (Made (λ (later : List X). x ∷ later) (Each B)) (Without (starts ++ goes_on)) at after (λ (xs : List X). xs) headed (rest-ends B ends starts goes_on apart is) xs part

@@ -1,6 +1,5 @@
 -- What is made of the parts of productions.
-use Rattle.std.specs.Prelude.{List, [], ◌∷◌, Option, Some, None, Bool, true, false, is_some, ⊤}
-use Rattle.hw_text.specs.declared.placed.Placed.{Placed}
+use Rattle.std.specs.Prelude.{List, [], Option, Some, None, ⊤}
 use Rattle.aadl_tree.specs.declared.annex.Annex.{Annex}
 use Rattle.aadl_tree.specs.declared.association.Association.{Association}
 use Rattle.aadl_tree.specs.declared.category.Category.{Category}
@@ -41,7 +40,8 @@ type_of category p = record {
   features = or_none p.1.0;
   properties = or_none p.1.1.0;
   annexes = p.1.1.1.0;
-  end_name = p.1.1.1.1.1.0 }
+  end_name = p.1.1.1.1.1.0;
+}
 
 -- the name, subcomponents, connections, properties, annexes, and the name behind "end"
 abbrev pub ImplementationParts : Type 0
@@ -55,7 +55,8 @@ implementation_of category p = record {
   connections = or_none p.1.1.1.0;
   properties = or_none p.1.1.1.1.0;
   annexes = p.1.1.1.1.1.0;
-  end_name = p.1.1.1.1.1.1.1.0 }
+  end_name = p.1.1.1.1.1.1.1.0;
+}
 
 abbrev pub component_of : Category → Choice ImplementationParts TypeParts → Declaration
 component_of category (First p) = declaration.Implementation (implementation_of category p)

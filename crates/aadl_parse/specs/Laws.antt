@@ -1,12 +1,12 @@
 -- What holds of parts of a grammar that are made of others.
-use Rattle.std.proofs.Common.{◌≡◌, ◌∙◌, refl, sym, ap, subst, ℕ, List, [], ◌∷◌, ◌++◌, Bool, true, false, ◌&&◌, ◌||◌, not, inl, inr, Option, Some, None, append_assoc}
-use Rattle.std.specs.Prelude.{◌⊎◌, ⊤, is_some}
+use Rattle.std.proofs.Common.{◌≡◌, ◌∙◌, refl, sym, ap, ℕ, List, [], ◌∷◌, ◌++◌, Bool, true, false, ◌&&◌, ◌||◌, not, inl, inr, Option, Some, None, append_assoc}
+use Rattle.std.specs.Prelude.{⊤, is_some}
 use Rattle.std.specs.List.{list_any}
 use Rattle.std.specs.Str.{bytes_eq}
 use Rattle.std.proofs.lemmas.Slice.Eq.{bytes_eq-Decides}
 use Rattle.std.proofs.lemmas.Bool.{false≢true}
 use Rattle.hw_text.specs.Language.{One, ◌⋅◌, Maybe, Each, Made, ◌∣◌}
-use Rattle.hw_text.specs.Reading.{first, begins, Begins}
+use Rattle.hw_text.specs.Reading.{begins, Begins}
 use Rattle.hw_text.proofs.Reading.{maybe-begins, each-begins}
 use Rattle.hw_text.specs.declared.placed.Placed.{Placed}
 use Rattle.aadl_tree.specs.declared.token.Token.{Token}

@@ -3,5 +3,10 @@ pub mod Flaws
 pub mod Fronts
 pub mod Laws
 pub mod Shapes
+pub mod SimpleValue
 pub mod Stops
 pub mod Terminals
+pub mod ValueBegins
+pub mod ValueForms
+pub mod ValueText
+pub mod ValueTokens

@@ -8,12 +8,12 @@ ghost use Rattle.aadl_parse.specs.Builds.{or_none};
 ghost use Rattle.aadl_parse.specs.Stops.{start};
 ghost use Rattle.aadl_parse.specs.Terminals.{operator_of, operator-shaped};
 
-use crate::section_rows::or_none;
 use crate::leaf::{Leaf, Terminal};
 use crate::made::{Production, Text};
 use crate::names::QualifiedText;
 use crate::part::{Behind, Beside, Closed, Part};
 use crate::paths::AppliesText;
+use crate::section_rows::or_none;
 use crate::sequence::{Before, Then};
 use crate::shape::{Sign, shape};
 use crate::surround::{ManyThen, OptionalThen};
@@ -124,15 +124,14 @@ impl Production for AssociationText {
 
     type Value = Association;
 
-    ghost build = {
-        λ p. record {
-          property = p.0;
-          operator = p.1.0;
-          constant = is_some p.1.1.0;
-          first = p.1.1.1.0;
-          others = p.1.1.1.1.0;
-          applies_to = or_none p.1.1.1.1.1.0 }
-    };
+    ghost build = { λ p. record {
+      property = p.0;
+      operator = p.1.0;
+      constant = is_some p.1.1.0;
+      first = p.1.1.1.0;
+      others = p.1.1.1.1.0;
+      applies_to = or_none p.1.1.1.1.1.0;
+    } };
 
     fn build(alloc: Global, parts: <Self::Parts as Part>::Value) -> Self::Value {
         let (property, (operator, (constant, (first, (others, (paths, ())))))) = parts;

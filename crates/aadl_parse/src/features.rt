@@ -130,7 +130,6 @@ impl Part for KindText {
     ) -> Result<Self::Value, ReadFault> {
         <Text<KindText>>::read(alloc, tokens)
     }
-
 }
 
 impl Behind<KindText> for EndingText {
@@ -141,7 +140,10 @@ impl Behind<KindText> for EndingText {
 pub struct FeatureText;
 
 impl Production for FeatureText {
-    type Parts = Then<Leaf<NameAt>, Then<Sign<Colon>, Then<Leaf<DirectionWord>, Before<KindText, EndingText>>>>;
+    type Parts = Then<
+        Leaf<NameAt>,
+        Then<Sign<Colon>, Then<Leaf<DirectionWord>, Before<KindText, EndingText>>>,
+    >;
 
     type Value = Feature;
 
@@ -181,7 +183,6 @@ impl Part for FeatureText {
     ) -> Result<Self::Value, ReadFault> {
         <Text<FeatureText>>::read(alloc, tokens)
     }
-
 }
 
 impl Behind<FeatureText> for FeatureText {

@@ -1,13 +1,14 @@
 //! The reader of models, from their bytes.
 #![tactic(auto)]
 
-mod value_text;
-mod associations;
-mod paths;
 mod annex_text;
+mod associations;
 mod byte;
 mod choice;
 mod classes;
+mod components;
+mod features;
+mod field_name;
 mod flaw;
 mod leaf;
 mod lexer;
@@ -15,22 +16,29 @@ mod list;
 mod made;
 mod name_token;
 mod names;
+mod naming;
 mod number;
 mod own;
-mod features;
-mod parts_of_implementations;
-mod section;
-mod components;
 mod package;
 mod part;
+mod parts_of_implementations;
+mod paths;
+mod plain_value;
+mod quantity;
 mod quoted_text;
+mod referring;
 mod repeat;
-mod sequence;
+mod section;
 mod section_rows;
+mod sequence;
 mod shape;
+mod simple_value;
 mod stop;
 mod surround;
 mod symbol;
+mod value;
+mod value_text;
+mod value_token;
 mod word;
 mod word_token;
 

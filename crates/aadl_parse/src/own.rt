@@ -61,7 +61,6 @@ impl Part for OwnText {
     ) -> Result<Self::Value, ReadFault> {
         <Text<OwnText>>::read(alloc, tokens)
     }
-
 }
 
 impl Behind<OwnText> for Sign<Semicolon> {
@@ -111,7 +110,6 @@ impl Part for EndingText {
     ) -> Result<Self::Value, ReadFault> {
         <Text<EndingText>>::read(alloc, tokens)
     }
-
 }
 
 impl Closed for EndingText {

@@ -28,7 +28,10 @@ impl Behind<ClassText> for EndingText {
 pub struct SubcomponentText;
 
 impl Production for SubcomponentText {
-    type Parts = Then<Leaf<NameAt>, Then<Sign<Colon>, Then<Leaf<CategoryWord>, Before<ClassText, EndingText>>>>;
+    type Parts = Then<
+        Leaf<NameAt>,
+        Then<Sign<Colon>, Then<Leaf<CategoryWord>, Before<ClassText, EndingText>>>,
+    >;
 
     type Value = Subcomponent;
 
@@ -68,7 +71,6 @@ impl Part for SubcomponentText {
     ) -> Result<Self::Value, ReadFault> {
         <Text<SubcomponentText>>::read(alloc, tokens)
     }
-
 }
 
 impl Behind<SubcomponentText> for SubcomponentText {
@@ -116,7 +118,6 @@ impl Part for Destination {
     ) -> Result<Self::Value, ReadFault> {
         <Then<Sign<Arrow>, Before<Text<EndText>, EndingText>>>::read(alloc, tokens)
     }
-
 }
 
 impl Behind<Text<EndText>> for EndingText {
@@ -131,7 +132,10 @@ impl Behind<Text<EndText>> for Destination {
 pub struct ConnectionText;
 
 impl Production for ConnectionText {
-    type Parts = Then<Leaf<NameAt>, Then<Sign<Colon>, Then<Sign<Port>, Before<Text<EndText>, Destination>>>>;
+    type Parts = Then<
+        Leaf<NameAt>,
+        Then<Sign<Colon>, Then<Sign<Port>, Before<Text<EndText>, Destination>>>,
+    >;
 
     type Value = Connection;
 
@@ -171,7 +175,6 @@ impl Part for ConnectionText {
     ) -> Result<Self::Value, ReadFault> {
         <Text<ConnectionText>>::read(alloc, tokens)
     }
-
 }
 
 impl Behind<ConnectionText> for ConnectionText {

@@ -1,25 +1,39 @@
-//! Values.
+//! Property values as a part of the grammar.
 
-ghost use Rattle.aadl_tree.specs.declared.value.PropertyValue.TheVariants.{Name as name_value};
+ghost use Rattle.aadl_parse.specs.SimpleValue.{value_starts, value_goes_on};
+ghost use Rattle.aadl_parse.specs.ValueBegins.{value-begun, a_value};
+ghost use Rattle.aadl_parse.specs.ValueText.{SpellsValue};
 
-use crate::made::{Production, Text};
-use crate::names::QualifiedText;
 use crate::part::Part;
-use aadl_tree::PropertyValue;
+use crate::value::{read_value, value_stands};
+use aadl_tree::{PropertyValue, Token};
+use hw_text::{Cursor, Placed, ReadFault};
 use std::alloc::Global;
 
-pub struct NameValue;
+/// A value of a property.
+pub struct ValueText;
 
-impl Production for NameValue {
-    type Parts = Text<QualifiedText>;
-
+impl Part for ValueText {
     type Value = PropertyValue;
 
-    ghost build = { λ p. name_value p };
+    ghost spells = { SpellsValue };
 
-    fn build(_alloc: Global, parts: <Self::Parts as Part>::Value) -> Self::Value {
-        PropertyValue::Name(parts)
+    ghost starts = { value_starts };
+
+    ghost goes_on = { value_goes_on };
+
+    fn stands(tokens: &Cursor<'_, Placed<Token>>) -> bool {
+        value_stands(tokens)
     }
-}
 
-pub type ValueText = Text<NameValue>;
+    fn read(
+        alloc: Global,
+        tokens: &mut Cursor<'_, Placed<Token>>,
+    ) -> Result<Self::Value, ReadFault> {
+        read_value(alloc, tokens)
+    }
+
+    ghost sample = { a_value };
+
+    ghost begun = { value-begun };
+}

@@ -12,6 +12,7 @@ use Rattle.aadl_tree.specs.declared.category.Category.TheVariants as category
 use Rattle.aadl_tree.specs.declared.names.QualifiedName.{QualifiedName}
 use Rattle.aadl_tree.specs.declared.names.Path.{Path}
 use Rattle.aadl_tree.specs.declared.names.ImplementationName.{ImplementationName}
+use Rattle.aadl_tree.specs.declared.class.BaseType.{BaseType}
 use Rattle.aadl_tree.specs.declared.class.Class.{Class}
 use Rattle.aadl_tree.specs.declared.class.Class.TheVariants.{Base, Model}
 use Rattle.aadl_tree.specs.Classes.{base_name}
@@ -42,20 +43,24 @@ maybe_behind_dot None = []
 maybe_behind_dot (Some n) = behind_dot n
 
 -- NAME { "::" NAME }
-abbrev pub qualified_tokens : QualifiedName → List Token
+unfoldable pub qualified_tokens : QualifiedName → List Token
 qualified_tokens q = token.Name q.first.name ∷ flat_map behind_colons q.others
 
 -- NAME { "." NAME }
-abbrev pub path_tokens : Path → List Token
+unfoldable pub path_tokens : Path → List Token
 path_tokens p = token.Name p.first.name ∷ flat_map behind_dot p.others
 
 -- NAME "." NAME
 abbrev pub implementation_name_tokens : ImplementationName → List Token
 implementation_name_tokens n = token.Name n.component_type.name ∷ behind_dot n.name
 
--- "base_types" "::" BASE, or NAME { "::" NAME } [ "." NAME ]
+-- "base_types" "::" BASE
+abbrev pub base_tokens : BaseType → List Token
+base_tokens base = token.Name (codes "base_types") ∷ token.Mark mark.DoubleColon ∷ token.Name (base_name base) ∷ []
+
+-- the same, or NAME { "::" NAME } [ "." NAME ]
 abbrev pub class_tokens : Class → List Token
-class_tokens (Base at base) = token.Name (codes "base_types") ∷ token.Mark mark.DoubleColon ∷ token.Name (base_name base) ∷ []
+class_tokens (Base at base) = base_tokens base
 class_tokens (Model m) = token.Name m.first ∷ flat_map behind_colons m.others ++ maybe_behind_dot m.implementation
 
 -- nothing for no member, and else the word and the members

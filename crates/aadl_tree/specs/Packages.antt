@@ -42,13 +42,13 @@ kind_tokens Event = token.Word word.Event ∷ token.Word word.Port ∷ []
 kind_tokens (EventData class) = token.Word word.Event ∷ token.Word word.Data ∷ token.Word word.Port ∷ class_tokens class
 
 -- NAME ":" ( "in" | "out" ) kind [ own ] ";"
-abbrev pub feature_tokens : Feature → List Token
+unfoldable pub feature_tokens : Feature → List Token
 feature_tokens f =
     token.Name f.name.name ∷ token.Mark mark.Colon ∷ token.Word (direction_word f.direction) ∷ kind_tokens f.kind ++
     own_tokens f.own ++ token.Mark mark.Semicolon ∷ []
 
 -- NAME ":" cat class [ own ] ";"
-abbrev pub subcomponent_tokens : Subcomponent → List Token
+unfoldable pub subcomponent_tokens : Subcomponent → List Token
 subcomponent_tokens s =
     token.Name s.name.name ∷ token.Mark mark.Colon ∷ token.Word (category_word s.category) ∷ class_tokens s.class ++
     own_tokens s.own ++ token.Mark mark.Semicolon ∷ []
@@ -58,7 +58,7 @@ abbrev pub end_tokens : ConnectionEnd → List Token
 end_tokens e = token.Name e.first.name ∷ maybe_behind_dot e.port
 
 -- NAME ":" "port" tip "->" tip [ own ] ";"
-abbrev pub connection_tokens : Connection → List Token
+unfoldable pub connection_tokens : Connection → List Token
 connection_tokens c =
     token.Name c.name.name ∷ token.Mark mark.Colon ∷ token.Word word.Port ∷ end_tokens c.from ++
     token.Mark mark.Arrow ∷ end_tokens c.to ++ own_tokens c.own ++ token.Mark mark.Semicolon ∷ []
@@ -69,11 +69,11 @@ annex_token (Some text) = token.Annex text
 annex_token None = token.Word word.None
 
 -- "annex" NAME ( ANNEX | "none" ) ";"
-abbrev pub annex_tokens : Annex → List Token
+unfoldable pub annex_tokens : Annex → List Token
 annex_tokens a = token.Word word.Annex ∷ token.Name a.name.name ∷ annex_token a.text ∷ token.Mark mark.Semicolon ∷ []
 
 -- cat NAME [ "features" feat { feat } ] [ "properties" assoc { assoc } ] { annex } "end" NAME ";"
-abbrev pub type_tokens : ComponentType → List Token
+unfoldable pub type_tokens : ComponentType → List Token
 type_tokens t =
     token.Word (category_word t.category) ∷ token.Name t.name.name ∷ section_tokens word.Features feature_tokens t.features ++
     section_tokens word.Properties association_tokens t.properties ++ flat_map annex_tokens t.annexes ++
@@ -81,7 +81,7 @@ type_tokens t =
 
 -- cat "implementation" NAME "." NAME [ "subcomponents" sub { sub } ] [ "connections" conn { conn } ] [ "properties" assoc { assoc } ]
 -- { annex } "end" NAME "." NAME ";"
-abbrev pub implementation_tokens : Implementation → List Token
+unfoldable pub implementation_tokens : Implementation → List Token
 implementation_tokens i =
     token.Word (category_word i.category) ∷ token.Word word.Implementation ∷ implementation_name_tokens i.name ++
     section_tokens word.Subcomponents subcomponent_tokens i.subcomponents ++
@@ -90,17 +90,17 @@ implementation_tokens i =
     token.Word word.End ∷ implementation_name_tokens i.end_name ++ token.Mark mark.Semicolon ∷ []
 
 -- type | impl | annex
-abbrev pub declaration_tokens : Declaration → List Token
+unfoldable pub declaration_tokens : Declaration → List Token
 declaration_tokens (declaration.Type t) = type_tokens t
 declaration_tokens (declaration.Implementation i) = implementation_tokens i
 declaration_tokens (declaration.Annex a) = annex_tokens a
 
 -- "with" pname { "," pname } ";"
-abbrev pub import_tokens : Import → List Token
+unfoldable pub import_tokens : Import → List Token
 import_tokens i = token.Word word.With ∷ qualified_tokens i.first ++ flat_map (behind_comma qualified_tokens) i.others ++ token.Mark mark.Semicolon ∷ []
 
 -- "package" pname "public" { with } { decl } "end" pname ";"
-abbrev pub package_tokens : Package → List Token
+unfoldable pub package_tokens : Package → List Token
 package_tokens p =
     token.Word word.Package ∷ qualified_tokens p.name ++ token.Word word.Public ∷ flat_map import_tokens p.imports ++
     flat_map declaration_tokens p.declarations ++ token.Word word.End ∷ qualified_tokens p.end_name ++ token.Mark mark.Semicolon ∷ []

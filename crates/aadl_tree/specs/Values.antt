@@ -6,6 +6,7 @@ use Rattle.aadl_tree.specs.declared.token.Token.TheVariants as token
 use Rattle.aadl_tree.specs.declared.word.Word.TheVariants as word
 use Rattle.aadl_tree.specs.declared.mark.Mark.{Mark}
 use Rattle.aadl_tree.specs.declared.mark.Mark.TheVariants as mark
+use Rattle.aadl_tree.specs.declared.class.Class.{Class}
 use Rattle.aadl_tree.specs.declared.names.Path.{Path}
 use Rattle.aadl_tree.specs.declared.association.Operator.{Operator}
 use Rattle.aadl_tree.specs.declared.association.Operator.TheVariants.{Set, Append}
@@ -51,24 +52,33 @@ abbrev pub truth_token : Bool → Token
 truth_token b = token.Word (if b then word.True else word.False)
 
 -- [ x { "," x } ]
-abbrev pub separated : List (List Token) → List Token
-separated [] = []
-separated (x ∷ xs) = x ++ flat_map (behind_comma (λ ts. ts)) xs
+abbrev pub separated : {X : Type 0} → (X → List Token) → List X → List Token
+separated tokens [] = []
+separated tokens (x ∷ xs) = tokens x ++ flat_map (behind_comma tokens) xs
 
-abbrev pub joined : List (List Token) → List Token
-joined xs = flat_map (λ ts. ts) xs
+-- quantity ".." quantity
+abbrev pub range_tokens : Quantity → Quantity → List Token
+range_tokens from to = quantity_tokens from ++ token.Mark mark.Range ∷ quantity_tokens to
+
+-- "classifier" "(" class ")"
+abbrev pub classifier_tokens : Class → List Token
+classifier_tokens c = token.Word word.Classifier ∷ token.Mark mark.OpenParenthesis ∷ class_tokens c ++ token.Mark mark.CloseParenthesis ∷ []
+
+-- "reference" "(" path ")"
+abbrev pub reference_tokens : Path → List Token
+reference_tokens p = token.Word word.Reference ∷ token.Mark mark.OpenParenthesis ∷ path_tokens p ++ token.Mark mark.CloseParenthesis ∷ []
 
 -- the tokens of a value, those of its parts being given
 abbrev pub value_step : PropertyValue-F (List Token) (List Token) → List Token
 value_step (value.Quantity q) = quantity_tokens q
-value_step (value.Range from to) = quantity_tokens from ++ token.Mark mark.Range ∷ quantity_tokens to
+value_step (value.Range from to) = range_tokens from to
 value_step (value.Text t) = token.Text t ∷ []
 value_step (value.Truth b) = truth_token b ∷ []
 value_step (value.Name q) = qualified_tokens q
-value_step (value.List vs) = token.Mark mark.OpenParenthesis ∷ separated vs ++ token.Mark mark.CloseParenthesis ∷ []
-value_step (value.Record fs) = token.Mark mark.OpenBracket ∷ joined fs ++ token.Mark mark.CloseBracket ∷ []
-value_step (value.Classifier c) = token.Word word.Classifier ∷ token.Mark mark.OpenParenthesis ∷ class_tokens c ++ token.Mark mark.CloseParenthesis ∷ []
-value_step (value.Reference p) = token.Word word.Reference ∷ token.Mark mark.OpenParenthesis ∷ path_tokens p ++ token.Mark mark.CloseParenthesis ∷ []
+value_step (value.List vs) = token.Mark mark.OpenParenthesis ∷ separated (λ ts. ts) vs ++ token.Mark mark.CloseParenthesis ∷ []
+value_step (value.Record fs) = token.Mark mark.OpenBracket ∷ flat_map (λ ts. ts) fs ++ token.Mark mark.CloseBracket ∷ []
+value_step (value.Classifier c) = classifier_tokens c
+value_step (value.Reference p) = reference_tokens p
 
 -- NAME "=>" value ";"
 abbrev pub field_step : RecordField-F (List Token) (List Token) → List Token
@@ -90,7 +100,7 @@ applies_tokens [] = []
 applies_tokens (p ∷ ps) = token.Word word.Applies ∷ token.Word word.To ∷ path_tokens p ++ flat_map (behind_comma path_tokens) ps
 
 -- pname ( "=>" | "+=>" ) [ "constant" ] value { "," value } [ "applies" "to" path { "," path } ] ";"
-abbrev pub association_tokens : Association → List Token
+unfoldable pub association_tokens : Association → List Token
 association_tokens a =
     qualified_tokens a.property ++ token.Mark (operator_mark a.operator) ∷ constant_tokens a.constant ++ value_tokens a.first ++
     flat_map (behind_comma value_tokens) a.others ++ applies_tokens a.applies_to ++ token.Mark mark.Semicolon ∷ []

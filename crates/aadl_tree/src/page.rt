@@ -5,9 +5,11 @@ ghost use Rattle.aadl_tree.specs.declared.page.Page.{Page};
 ghost use Rattle.aadl_tree.specs.declared.page.Margin.{Margin};
 ghost use Rattle.aadl_tree.specs.declared.page.Margin.TheVariants.{LineStart};
 ghost use Rattle.aadl_tree.specs.declared.token.Token.TheVariants as token;
-ghost use Rattle.aadl_tree.specs.Layout.{word_begins_line, word_ends_line, is_semicolon, is_tight, is_close, gap_text, line_end, margin_of, with_token};
+ghost use Rattle.aadl_tree.specs.Layout.{word_begins_line, word_ends_line, is_semicolon, is_tight, is_close, gap_text, line_end, margin_of, with_token, written};
+ghost use Rattle.aadl_tree.specs.Canonical.{base_tokens};
 
 use crate::annex_text::AnnexText;
+use crate::class::BaseType;
 use crate::integer::Integer;
 use crate::mark::Mark;
 use crate::quoted::Quoted;
@@ -70,9 +72,7 @@ impl Page {
     pub fn name(&mut self, name: &Name) -> Result<(), NoMemory>
         ensures { OnOk result (self.new ≡ with_token self.old (token.Name name.now)) }
     {
-        self.part(false, false)?;
-        self.text.word(name.rows())?;
-        self.leave(false, false)
+        self.plain(name.rows())
     }
 
     pub fn integer(&mut self, integer: &Integer) -> Result<(), NoMemory>
@@ -108,6 +108,23 @@ impl Page {
         self.text.word(b"{**")?;
         self.text.word(text.rows())?;
         self.text.word(b"**}")?;
+        self.leave(false, false)
+    }
+
+    pub fn base_type(&mut self, base: BaseType) -> Result<(), NoMemory>
+        ensures { OnOk result (self.new ≡ written self.old (base_tokens base)) }
+    {
+        self.plain(b"base_types")?;
+        self.mark(Mark::DoubleColon)?;
+        self.plain(base.name().as_bytes())
+    }
+
+    /// Appends a name.
+    fn plain(&mut self, name: &[u8]) -> Result<(), NoMemory>
+        ensures { OnOk result (self.new ≡ with_token self.old (token.Name name.now)) }
+    {
+        self.part(false, false)?;
+        self.text.word(name)?;
         self.leave(false, false)
     }
 

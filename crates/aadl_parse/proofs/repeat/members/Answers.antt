@@ -1,4 +1,4 @@
-use Rattle.std.proofs.Common.{sym, ◌∙◌, ◌++◌}
+use Rattle.std.proofs.Common.{sym, ◌∙◌}
 use Rattle.hw_text.proofs.Reading.{failed}
 use Rattle.aadl_parse.specs.Shapes.{Without}
 use Rattle.aadl_parse.proofs.Repeats.{members-begun, members-read, members-stuck, members-more, read-shorter}

@@ -1,4 +1,4 @@
-use Rattle.std.proofs.Common.{sym, ap, ◌∙◌, [], refl}
+use Rattle.std.proofs.Common.{sym, ◌∙◌, []}
 use Rattle.hw_text.proofs.Reading.{ahead-reached, ahead-stuck}
 use Rattle.aadl_parse.specs.Shapes.{Without}
 use Rattle.aadl_parse.proofs.leaf.LeafPart.read.Goals as goal

@@ -11,4 +11,4 @@ returns-in_err-first g c =
 pub returns : goal.returns
 returns g c =
     one_and_each-read g.A.Part.spells g.B.Part.spells g.A.Part.goes_on g.B.Part.starts g.B.Part.goes_on g.B.Part.begun g.met.B.Behind-1.apart _ _ _ c.in_ok-first.ensures _ _ _
-      (c.in_ok-push.ensures.ok ∙ ap (λ xs. xs ++ c.in_ok-first.first ∷ []) c.new-started.ensures) c.members.ensures
+    (c.in_ok-push.ensures.ok ∙ ap (λ xs. xs ++ c.in_ok-first.first ∷ []) c.new-started.ensures) c.members.ensures
