@@ -10,8 +10,8 @@ use crate::name_token::NameAt;
 use crate::names::ImplementationNameText;
 use crate::part::{Behind, Beside, Closed, Part};
 use crate::section::{AnnexText, ConnectionsText, FeaturesText, PropertiesText, SubcomponentsText};
-use crate::sequence::Then;
 use crate::section_rows::or_none;
+use crate::sequence::Then;
 use crate::shape::Sign;
 use crate::surround::{ManyThen, OptionalThen};
 use crate::symbol::points::Semicolon;
@@ -50,7 +50,6 @@ impl Part for TypeAnnexes {
     ) -> Result<Self::Value, ReadFault> {
         <ManyThen<AnnexText, TypeEnd>>::read(alloc, tokens)
     }
-
 }
 
 /// [ props ] { annex } "end" NAME ";"
@@ -79,7 +78,6 @@ impl Part for TypeProperties {
     ) -> Result<Self::Value, ReadFault> {
         <OptionalThen<PropertiesText, TypeAnnexes>>::read(alloc, tokens)
     }
-
 }
 
 /// NAME [ features ] [ props ] { annex } "end" NAME ";"
@@ -108,7 +106,6 @@ impl Part for TypeBody {
     ) -> Result<Self::Value, ReadFault> {
         <Then<Leaf<NameAt>, OptionalThen<FeaturesText, TypeProperties>>>::read(alloc, tokens)
     }
-
 }
 
 /// "end" NAME "." NAME ";"
@@ -140,7 +137,6 @@ impl Part for BodyAnnexes {
     ) -> Result<Self::Value, ReadFault> {
         <ManyThen<AnnexText, BodyEnd>>::read(alloc, tokens)
     }
-
 }
 
 /// [ props ] { annex } "end" NAME "." NAME ";"
@@ -169,7 +165,6 @@ impl Part for BodyProperties {
     ) -> Result<Self::Value, ReadFault> {
         <OptionalThen<PropertiesText, BodyAnnexes>>::read(alloc, tokens)
     }
-
 }
 
 /// [ connections ] [ props ] { annex } "end" NAME "." NAME ";"
@@ -198,14 +193,16 @@ impl Part for BodyConnections {
     ) -> Result<Self::Value, ReadFault> {
         <OptionalThen<ConnectionsText, BodyProperties>>::read(alloc, tokens)
     }
-
 }
 
 /// "implementation" NAME "." NAME [ subcomponents ] [ connections ] [ props ] { annex } "end" NAME "." NAME ";"
 pub struct ImplementationBody;
 
 impl Part for ImplementationBody {
-    type Value = <Then<Sign<ImplementationWord>, Then<Text<ImplementationNameText>, OptionalThen<SubcomponentsText, BodyConnections>>> as Part>::Value;
+    type Value = <Then<
+        Sign<ImplementationWord>,
+        Then<Text<ImplementationNameText>, OptionalThen<SubcomponentsText, BodyConnections>>,
+    > as Part>::Value;
 
     ghost spells = { ⟦<Then<Sign<ImplementationWord>, Then<Text<ImplementationNameText>, OptionalThen<SubcomponentsText, BodyConnections>>> as Part>⟧.spells };
 
@@ -218,16 +215,21 @@ impl Part for ImplementationBody {
     ghost begun = { ⟦<Then<Sign<ImplementationWord>, Then<Text<ImplementationNameText>, OptionalThen<SubcomponentsText, BodyConnections>>> as Part>⟧.begun };
 
     fn stands(tokens: &Cursor<'_, Placed<Token>>) -> bool {
-        <Then<Sign<ImplementationWord>, Then<Text<ImplementationNameText>, OptionalThen<SubcomponentsText, BodyConnections>>>>::stands(tokens)
+        <Then<
+            Sign<ImplementationWord>,
+            Then<Text<ImplementationNameText>, OptionalThen<SubcomponentsText, BodyConnections>>,
+        >>::stands(tokens)
     }
 
     fn read(
         alloc: Global,
         tokens: &mut Cursor<'_, Placed<Token>>,
     ) -> Result<Self::Value, ReadFault> {
-        <Then<Sign<ImplementationWord>, Then<Text<ImplementationNameText>, OptionalThen<SubcomponentsText, BodyConnections>>>>::read(alloc, tokens)
+        <Then<
+            Sign<ImplementationWord>,
+            Then<Text<ImplementationNameText>, OptionalThen<SubcomponentsText, BodyConnections>>,
+        >>::read(alloc, tokens)
     }
-
 }
 
 /// The two kinds of what stands behind a category.
@@ -256,7 +258,6 @@ impl Part for ComponentBody {
     ) -> Result<Self::Value, ReadFault> {
         <Then<Leaf<CategoryWord>, Either<ImplementationBody, TypeBody>>>::read(alloc, tokens)
     }
-
 }
 
 impl Behind<AnnexText> for TypeEnd {
@@ -364,7 +365,6 @@ impl Part for DeclarationText {
     ) -> Result<Self::Value, ReadFault> {
         <Text<DeclarationText>>::read(alloc, tokens)
     }
-
 }
 
 impl Closed for DeclarationText {
@@ -384,7 +384,9 @@ fn component_of(
     ensures { result ≡ component_of category body }
 {
     match body {
-        Choice::First(body) => Declaration::Implementation(implementation_of(alloc, category, body)),
+        Choice::First(body) => Declaration::Implementation(implementation_of(
+            alloc, category, body,
+        )),
         Choice::Second(body) => Declaration::Type(type_of(alloc, category, body)),
     }
 }

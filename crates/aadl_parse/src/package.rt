@@ -69,7 +69,6 @@ impl Part for OtherImports {
     ) -> Result<Self::Value, ReadFault> {
         <ManyThen<Text<CommaQualified>, Sign<Semicolon>>>::read(alloc, tokens)
     }
-
 }
 
 impl Behind<Text<QualifiedText>> for OtherImports {
@@ -115,7 +114,6 @@ impl Part for ImportText {
     ) -> Result<Self::Value, ReadFault> {
         <Text<ImportText>>::read(alloc, tokens)
     }
-
 }
 
 impl Closed for ImportText {
@@ -155,7 +153,6 @@ impl Part for Declarations {
     ) -> Result<Self::Value, ReadFault> {
         <ManyThen<DeclarationText, PackageEnd>>::read(alloc, tokens)
     }
-
 }
 
 /// "public" { with } { decl } "end" pname ";"
@@ -184,7 +181,6 @@ impl Part for PackageBody {
     ) -> Result<Self::Value, ReadFault> {
         <Then<Sign<Public>, ManyThen<ImportText, Declarations>>>::read(alloc, tokens)
     }
-
 }
 
 impl Behind<Text<QualifiedText>> for Sign<Semicolon> {
@@ -255,7 +251,6 @@ impl Part for PackageText {
     ) -> Result<Self::Value, ReadFault> {
         <Text<PackageText>>::read(alloc, tokens)
     }
-
 }
 
 impl Closed for PackageText {

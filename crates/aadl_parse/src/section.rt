@@ -79,7 +79,6 @@ impl Part for FeaturesText {
     ) -> Result<Self::Value, ReadFault> {
         <Text<FeaturesText>>::read(alloc, tokens)
     }
-
 }
 
 impl Beside<Text<NoneText>> for AtLeastOne<SubcomponentText> {
@@ -90,7 +89,10 @@ impl Beside<Text<NoneText>> for AtLeastOne<SubcomponentText> {
 pub struct SubcomponentsText;
 
 impl Production for SubcomponentsText {
-    type Parts = Then<Sign<sections::Subcomponents>, Either<Text<NoneText>, AtLeastOne<SubcomponentText>>>;
+    type Parts = Then<
+        Sign<sections::Subcomponents>,
+        Either<Text<NoneText>, AtLeastOne<SubcomponentText>>,
+    >;
 
     type Value = Rows<Subcomponent>;
 
@@ -125,7 +127,6 @@ impl Part for SubcomponentsText {
     ) -> Result<Self::Value, ReadFault> {
         <Text<SubcomponentsText>>::read(alloc, tokens)
     }
-
 }
 
 impl Beside<Text<NoneText>> for AtLeastOne<ConnectionText> {
@@ -136,7 +137,10 @@ impl Beside<Text<NoneText>> for AtLeastOne<ConnectionText> {
 pub struct ConnectionsText;
 
 impl Production for ConnectionsText {
-    type Parts = Then<Sign<sections::Connections>, Either<Text<NoneText>, AtLeastOne<ConnectionText>>>;
+    type Parts = Then<
+        Sign<sections::Connections>,
+        Either<Text<NoneText>, AtLeastOne<ConnectionText>>,
+    >;
 
     type Value = Rows<Connection>;
 
@@ -171,7 +175,6 @@ impl Part for ConnectionsText {
     ) -> Result<Self::Value, ReadFault> {
         <Text<ConnectionsText>>::read(alloc, tokens)
     }
-
 }
 
 impl Beside<Text<NoneText>> for AtLeastOne<AssociationText> {
@@ -182,7 +185,10 @@ impl Beside<Text<NoneText>> for AtLeastOne<AssociationText> {
 pub struct PropertiesText;
 
 impl Production for PropertiesText {
-    type Parts = Then<Sign<sections::Properties>, Either<Text<NoneText>, AtLeastOne<AssociationText>>>;
+    type Parts = Then<
+        Sign<sections::Properties>,
+        Either<Text<NoneText>, AtLeastOne<AssociationText>>,
+    >;
 
     type Value = Rows<Association>;
 
@@ -217,14 +223,16 @@ impl Part for PropertiesText {
     ) -> Result<Self::Value, ReadFault> {
         <Text<PropertiesText>>::read(alloc, tokens)
     }
-
 }
 
 /// "annex" NAME ( ANNEX | "none" ) ";"
 pub struct AnnexText;
 
 impl Production for AnnexText {
-    type Parts = Then<Sign<sections::Annex>, Then<Leaf<NameAt>, Then<Leaf<AnnexBody>, Sign<Semicolon>>>>;
+    type Parts = Then<
+        Sign<sections::Annex>,
+        Then<Leaf<NameAt>, Then<Leaf<AnnexBody>, Sign<Semicolon>>>,
+    >;
 
     type Value = Annex;
 
@@ -263,7 +271,6 @@ impl Part for AnnexText {
     ) -> Result<Self::Value, ReadFault> {
         <Text<AnnexText>>::read(alloc, tokens)
     }
-
 }
 
 impl Closed for AnnexText {
