@@ -1,9 +1,8 @@
 -- What has been read of one part or another, and of a part of which a value is made.
-use Rattle.std.proofs.Common.{◌≡◌, ◌∙◌, refl, sym, ap, subst, ℕ, List, [], ◌∷◌, ◌++◌, Bool, true, false, inl, inr}
-use Rattle.std.specs.Prelude.{◌⊎◌}
+use Rattle.std.proofs.Common.{◌≡◌, ◌∙◌, refl, sym, ℕ, List, ◌++◌, true, false}
 use Rattle.std.proofs.lemmas.Bool.{false≢true}
-use Rattle.hw_text.specs.Language.{◌⋅◌, Made, ◌∣◌}
-use Rattle.hw_text.specs.Reading.{first, begins, Begins, Reached, Stuck, Leaves}
+use Rattle.hw_text.specs.Language.{Made, ◌∣◌}
+use Rattle.hw_text.specs.Reading.{begins, Begins, Reached, Stuck, Leaves}
 use Rattle.hw_text.proofs.Reading.{begun, unmade, left, right, last, last-stuck, never-begins, first-begins}
 use Rattle.hw_text.specs.declared.placed.Placed.{Placed}
 use Rattle.aadl_tree.specs.declared.token.Token.{Token}

@@ -1,10 +1,10 @@
 -- What has been read of parts that stand there or not, or several times.
-use Rattle.std.proofs.Common.{◌≡◌, ◌∙◌, refl, sym, ap, subst, ℕ, ◌<◌, ◌≤◌, length, length-append, arith, List, [], ◌∷◌, ◌++◌, Bool, true, false, Option, Some, None, append_assoc, append-nil}
+use Rattle.std.proofs.Common.{◌≡◌, ◌∙◌, refl, sym, ap, subst, ℕ, ◌<◌, length, length-append, arith, List, [], ◌∷◌, ◌++◌, true, false, Some, None, append_assoc, append-nil}
 use Rattle.std.specs.Prelude.{⊤, Result, Ok, Err}
 use Rattle.std.proofs.lemmas.Bool.{false≢true}
-use Rattle.hw_text.specs.Language.{Nothing, ◌⋅◌, Maybe, Each, Made}
-use Rattle.hw_text.specs.Reading.{first, begins, Begins, Reached, Stuck, Reads, Leaves}
-use Rattle.hw_text.proofs.Reading.{begun, unmade, some, none, more, no_more, rebuilt, ended, step, stuck, last, last-stuck, never-begins, never-follows}
+use Rattle.hw_text.specs.Language.{◌⋅◌, Maybe, Each, Made}
+use Rattle.hw_text.specs.Reading.{begins, Begins, Reached, Stuck, Reads, Leaves}
+use Rattle.hw_text.proofs.Reading.{begun, some, none, more, no_more, rebuilt, ended, step, stuck, last, last-stuck, never-begins, never-follows}
 use Rattle.hw_text.specs.declared.placed.Placed.{Placed}
 use Rattle.hw_text.specs.declared.read_fault.ReadFault.{ReadFault}
 use Rattle.hw_text.specs.declared.read_fault.ReadFault.TheVariants.{Syntax, NoMemory}

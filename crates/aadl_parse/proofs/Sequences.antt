@@ -1,6 +1,6 @@
 -- What has been read of two parts, one behind the other.
-use Rattle.std.proofs.Common.{Option, Some, None, ◌≡◌, ◌∙◌, refl, sym, ap, subst, ℕ, List, [], ◌∷◌, ◌++◌, Bool, true, false, append_assoc, append-nil}
-use Rattle.hw_text.specs.Language.{◌⋅◌, Maybe, Each, Made}
+use Rattle.std.proofs.Common.{Option, Some, None, ◌≡◌, ◌∙◌, refl, sym, ap, subst, ℕ, List, [], ◌∷◌, ◌++◌, true, append_assoc}
+use Rattle.hw_text.specs.Language.{◌⋅◌, Maybe, Each}
 use Rattle.hw_text.specs.Reading.{Begins, Reached, Stuck, Leaves}
 use Rattle.hw_text.proofs.Reading.{begun, step, stuck, last, last-stuck}
 use Rattle.hw_text.specs.declared.placed.Placed.{Placed}

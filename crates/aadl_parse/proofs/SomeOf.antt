@@ -12,7 +12,7 @@ use Rattle.aadl_parse.specs.Shapes.{one_of, Without, is_disjoint}
 use Rattle.aadl_parse.proofs.Repeats.{each-follows}
 
 -- what is left is what a value is made of
-remade : {T X Y Z : Type 0} (A : Z → List T → Type 0) (F : List T → Type 0) (before after : List T) (build : Y → Z) (make : X → Y) (B : X → List T → Type 0) → Leaves A F before after (λ x. build (make x)) B → Leaves A F before after build (Made make B)
+pub remade : {T X Y Z : Type 0} (A : Z → List T → Type 0) (F : List T → Type 0) (before after : List T) (build : Y → Z) (make : X → Y) (B : X → List T → Type 0) → Leaves A F before after (λ x. build (make x)) B → Leaves A F before after build (Made make B)
 remade A F before after build make B so = record {
   taken = so.taken;
   split = so.split;

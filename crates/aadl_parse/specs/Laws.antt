@@ -1,12 +1,12 @@
 -- What holds of parts of a grammar that are made of others.
-use Rattle.std.proofs.Common.{◌≡◌, ◌∙◌, refl, sym, ap, subst, ℕ, List, [], ◌∷◌, ◌++◌, Bool, true, false, ◌&&◌, ◌||◌, not, inl, inr, Option, Some, None, append_assoc}
-use Rattle.std.specs.Prelude.{◌⊎◌, ⊤, is_some}
+use Rattle.std.proofs.Common.{◌≡◌, ◌∙◌, refl, sym, ap, ℕ, List, [], ◌∷◌, ◌++◌, Bool, true, false, ◌&&◌, ◌||◌, not, inl, inr, Option, Some, None, append_assoc}
+use Rattle.std.specs.Prelude.{⊤, is_some}
 use Rattle.std.specs.List.{list_any}
 use Rattle.std.specs.Str.{bytes_eq}
 use Rattle.std.proofs.lemmas.Slice.Eq.{bytes_eq-Decides}
 use Rattle.std.proofs.lemmas.Bool.{false≢true}
 use Rattle.hw_text.specs.Language.{One, ◌⋅◌, Maybe, Each, Made, ◌∣◌}
-use Rattle.hw_text.specs.Reading.{first, begins, Begins}
+use Rattle.hw_text.specs.Reading.{begins, Begins}
 use Rattle.hw_text.proofs.Reading.{maybe-begins, each-begins}
 use Rattle.hw_text.specs.declared.placed.Placed.{Placed}
 use Rattle.aadl_tree.specs.declared.token.Token.{Token}
@@ -144,3 +144,10 @@ some_of-sample A a = (a.0 ∷ [], a.1 ++ [], ((a.0, []), refl, (a.1, [], refl, a
 
 pub some_of-begins : {X : Type 0} (A : X → List (Placed Token) → Type 0) (xs : List (List ℕ)) → Begins (one_of xs) true A → Begins (one_of xs) true (Made (λ (p : X × List X). p.0 ∷ p.1) (A ⋅ Each A))
 some_of-begins {X} A xs is = made-begins (A ⋅ Each A) (λ (p : X × List X). p.0 ∷ p.1) xs (two-begins A (Each A) xs is)
+
+module _ {X : Type 0} (A B : X → List (Placed Token) → Type 0) where
+  pub one_and_each-sample : ((x : X) × (w : List (Placed Token)) × A x w) → (xs : List X) × (w : List (Placed Token)) × Made (λ (p : X × List X). p.0 ∷ p.1) (A ⋅ Each B) xs w
+  one_and_each-sample a = (a.0 ∷ [], a.1 ++ [], ((a.0, []), refl, (a.1, [], refl, a.2, refl)))
+
+  pub one_and_each-begins : (xs : List (List ℕ)) → Begins (one_of xs) true A → Begins (one_of xs) true (Made (λ (p : X × List X). p.0 ∷ p.1) (A ⋅ Each B))
+  one_and_each-begins xs is = made-begins (A ⋅ Each B) (λ (p : X × List X). p.0 ∷ p.1) xs (two-begins A (Each B) xs is)

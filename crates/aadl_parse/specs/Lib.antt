@@ -1,3 +1,4 @@
+pub mod Builds
 pub mod Flaws
 pub mod Fronts
 pub mod Grammar
@@ -5,5 +6,11 @@ pub mod Laws
 pub mod LeftOut
 pub mod Refusals
 pub mod Shapes
+pub mod SimpleValue
 pub mod Stops
+pub mod Terminals
+pub mod ValueBegins
+pub mod ValueForms
+pub mod ValueText
+pub mod ValueTokens
 pub mod Whole

@@ -1,7 +1,8 @@
 //! One part of a grammar or another.
 
-ghost use Rattle.std.specs.Prelude.{◌++◌};
+ghost use Rattle.std.specs.Prelude.{◌++◌, ◌≡◌};
 ghost use Rattle.hw_text.specs.Language.{Made, ◌∣◌};
+ghost use Rattle.aadl_parse.specs.Builds.{either_of};
 ghost use Rattle.aadl_parse.specs.Laws.{either-sample, either-begins, both-none};
 ghost use Rattle.aadl_parse.specs.declared.choice.Choice.TheVariants.{First, Second};
 
@@ -55,4 +56,14 @@ impl<A: Part, B: Beside<A>> Part for Either<A, B> {
 
 impl<A: Closed, B: Beside<A> + Closed> Closed for Either<A, B> {
     ghost closed = { both-none A.Part.goes_on B.Part.goes_on A.Closed.closed B.Closed.closed };
+}
+
+/// The value, whichever part it came from.
+pub fn either_of<X: Drop>(choice: Choice<X, X>) -> X
+    ensures { result ≡ either_of choice }
+{
+    match choice {
+        Choice::First(value) => value,
+        Choice::Second(value) => value,
+    }
 }

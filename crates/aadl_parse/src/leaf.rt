@@ -22,6 +22,10 @@ pub trait Terminal {
 
     ghost shapes: { List (List ℕ) };
 
+    ghost sample: { (t : Placed Token) × (x : Self.Value) × (value t ≡ Some x) };
+
+    ghost shaped: { (t : Placed Token) (x : Self.Value) → value t ≡ Some x → one_of shapes t ≡ true };
+
     /// Whether the token has one of the shapes.
     fn is_shaped(token: &Placed<Token>) -> bool
         ensures { result ≡ one_of shapes token.now };
@@ -29,10 +33,6 @@ pub trait Terminal {
     /// The value of the token, where it is of the kind.
     fn value(alloc: Global, token: &Placed<Token>) -> Result<Option<Self::Value>, NoMemory>
         ensures { IfOk result (λ found. found ≡ value token.now) };
-
-    ghost sample: { (t : Placed Token) × (x : Self.Value) × (value t ≡ Some x) };
-
-    ghost shaped: { (t : Placed Token) (x : Self.Value) → value t ≡ Some x → one_of shapes t ≡ true };
 }
 
 /// One token of the kind.

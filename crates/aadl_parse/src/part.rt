@@ -24,6 +24,10 @@ pub trait Part {
     /// The shapes of tokens with which a text may go on where another text ends.
     ghost goes_on: { List (List ℕ) };
 
+    ghost sample: { (x : Self.Value) × (w : List (Placed Token)) × spells x w };
+
+    ghost begun: { Begins (one_of starts) true spells };
+
     /// Whether a token stands ahead with which a text of the part may begin.
     fn stands(tokens: &Cursor<'_, Placed<Token>>) -> bool
         ensures { result ≡ begins (one_of starts) tokens.now };
@@ -31,10 +35,6 @@ pub trait Part {
     /// Reads a text of the part.
     fn read(alloc: Global, tokens: &mut Cursor<'_, Placed<Token>>) -> Result<Self::Value, ReadFault>
         ensures { Reads spells (Without goes_on) tokens.old tokens.new result };
-
-    ghost sample: { (x : Self.Value) × (w : List (Placed Token)) × spells x w };
-
-    ghost begun: { Begins (one_of starts) true spells };
 }
 
 /// A part no text of which goes on where another one ends.

@@ -34,10 +34,10 @@ pub fn shape(token: &Token) -> &'static str
 pub trait Symbol {
     ghost text: { List ℕ };
 
+    ghost sample: { (t : Placed Token) × (shape t.token ≡ text) };
+
     fn text() -> &'static str
         ensures { result.now ≡ text };
-
-    ghost sample: { (t : Placed Token) × (shape t.token ≡ text) };
 }
 
 /// That word or mark.

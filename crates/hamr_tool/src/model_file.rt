@@ -6,10 +6,8 @@ ghost use Rattle.hamr_tool.specs.ModelFile.{IsModelText, FileIs, ParsedAs};
 ghost use Rattle.hamr_tool.specs.Outside.{seen};
 ghost use Rattle.hamr_tool.specs.Stop.{OnStopped, IsOutside};
 
-ghost use Rattle.aadl_parse.specs.Grammar.{SpellsPackage};
-ghost use Rattle.aadl_parse.specs.Refusals.{IsAccepted, IsRejected, IfRefused};
-
 use crate::files::{Stop, read_file};
+use aadl_parse::parse;
 use aadl_tree::Package;
 use hw_io::Store;
 use hw_text::{Fault, NoMemory, Refusal};
@@ -52,13 +50,4 @@ fn refused(fault: Fault) -> Result<ModelText, NoMemory>
         Fault::Refused(refusal) => Ok(ModelText::Refused(refusal)),
         Fault::NoMemory => Err(NoMemory),
     }
-}
-
-/// STUB
-fn parse(_alloc: Global, bytes: &[u8]) -> Result<Package, Fault>
-    ensures accepted { IfOk result (λ tree. IsAccepted SpellsPackage bytes.now tree) }
-    ensures rejected { IfRefused result (λ refusal. IsRejected SpellsPackage bytes.now refusal) }
-{
-    let _ = bytes;
-    Err(Fault::NoMemory)
 }

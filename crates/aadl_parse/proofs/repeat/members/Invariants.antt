@@ -1,4 +1,4 @@
-use Rattle.std.proofs.Common.{List, ◌++◌, length}
+use Rattle.std.proofs.Common.{◌++◌, length}
 use Rattle.hw_text.specs.Language.{Each, Made}
 use Rattle.hw_text.specs.Reading.{Leaves}
 use Rattle.aadl_parse.specs.Shapes.{Without}

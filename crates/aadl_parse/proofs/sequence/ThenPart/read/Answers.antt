@@ -7,7 +7,7 @@ pub returns-in_err-first : goal.returns-in_err-first
 returns-in_err-first g c =
     failed _ _ _ _ _ _ _ _ _ c.from_residual.ensures.1 c.in_err-first.ensures
     (first-stuck g.A.Part.spells g.B.Part.spells (Without g.A.Part.goes_on) (Without g.B.Part.goes_on) (Without g.B.Part.goes_on)
-    (closed-follows g.B.Part.spells g.A.Part.goes_on (Without g.B.Part.goes_on) g.met.A.Closed.closed) (λ m f. f) _ _ g.met.B.Part.sample)
+    (closed-follows g.B.Part.spells g.A.Part.goes_on (Without g.B.Part.goes_on) g.met.A.Closed.closed) (λ m f. f) _ _ g.B.Part.sample)
 
 pub returns-in_err-second : goal.returns-in_err-second
 returns-in_err-second g c =

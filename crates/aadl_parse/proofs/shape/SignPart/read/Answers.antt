@@ -7,7 +7,7 @@ use Rattle.aadl_parse.proofs.shape.SignPart.read.Goals as goal
 pub returns-then-not-stands : goal.returns-then-not-stands
 returns-then-not-stands g c =
     let text = g.S.Symbol.text in
-    such-stuck (symbol_of text) (Without []) (one_of (text ∷ [])) _ (symbol-sample text g.met.S.Symbol.sample) (sym c.stands.ensures ∙ c.if-not-stands.true) (λ t is. ap found is)
+    such-stuck (symbol_of text) (Without []) (one_of (text ∷ [])) _ (symbol-sample text g.S.Symbol.sample) (sym c.stands.ensures ∙ c.if-not-stands.true) (λ t is. ap found is)
 
 pub returns : goal.returns
 returns g c =

@@ -11,7 +11,7 @@ use Rattle.aadl_parse.specs.declared.stop.Stop.{Stop}
 use Rattle.aadl_parse.specs.declared.stop.Stop.TheVariants as stop
 use Rattle.aadl_parse.specs.contracts.stop.Stop.{the_type}
 use Rattle.aadl_parse.proofs.Parses.{sound-stuck, text-stopped}
-use Rattle.aadl_parse.proofs.parse.read_flawless.Goals as goal
+use Rattle.aadl_parse.proofs.reader.read_flawless.Goals as goal
 
 pub returns-else-eq-clause-refused : goal.returns-else-eq-clause-refused
 returns-else-eq-clause-refused g c =

@@ -2,8 +2,8 @@ use Rattle.std.proofs.Common.{◌≡◌, ◌∙◌, refl, sym, ap, ◌+◌, List
 use Rattle.hw_text.specs.declared.placed.Placed.{Placed}
 use Rattle.aadl_tree.specs.declared.token.Token.{Token}
 use Rattle.aadl_parse.proofs.Parses.{told-read, told-passed, told-stuck}
-use Rattle.aadl_parse.proofs.parse.failure_before.Goals as goal
-use Rattle.aadl_parse.proofs.parse.failure_before.Goals.{in-Text+in_ok-flawed_there-in-Text, in-Stuck+then-passed-flaw+in_ok-unexpected_behind-in-Stuck, in-Stuck+else-passed-flaw+in_ok-flawed_there-in-Stuck}
+use Rattle.aadl_parse.proofs.reader.failure_before.Goals as goal
+use Rattle.aadl_parse.proofs.reader.failure_before.Goals.{in-Text+in_ok-flawed_there-in-Text, in-Stuck+then-passed-flaw+in_ok-unexpected_behind-in-Stuck, in-Stuck+else-passed-flaw+in_ok-flawed_there-in-Stuck}
 
 pub returns : goal.returns
 returns g c =

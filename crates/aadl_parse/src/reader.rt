@@ -2,19 +2,30 @@
 
 ghost use Rattle.std.specs.Prelude.{◌≡◌, ◌<◌, ℕ, slice_get, Some, None, IfOk};
 ghost use Rattle.aadl_parse.specs.Flaws.{flaw_at};
+ghost use Rattle.aadl_parse.specs.Grammar.{SpellsPackage};
 ghost use Rattle.aadl_parse.specs.Refusals.{IsAccepted, IsRejected, IfRefused, IsSound, FailsAt, unexpected_there, FlawIsTold};
 
 use crate::flaw::{Flawed, first_flawed};
 use crate::lexer::{Lexed, read_tokens};
+use crate::package::PackageText;
 use crate::part::{Closed, Part};
 use crate::refusals::{LARGEST, flawed, stopped, too_long, unexpected};
 use crate::stop::Stop;
 use crate::whole::{Whole, read_whole};
+use aadl_tree::Package;
 use hw_text::{Fault, NoMemory, Refusal};
 use std::alloc::Global;
 
+/// The package that a text is a text of, or why it is no model.
+pub fn parse(alloc: Global, bytes: &[u8]) -> Result<Package, Fault>
+    ensures accepted { IfOk result (λ tree. IsAccepted SpellsPackage bytes.now tree) }
+    ensures rejected { IfRefused result (λ refusal. IsRejected SpellsPackage bytes.now refusal) }
+{
+    read_text::<PackageText>(alloc, bytes)
+}
+
 /// Reads a whole text of a part of the grammar.
-pub fn read_text<P: Closed>(alloc: Global, bytes: &[u8]) -> Result<P::Value, Fault>
+fn read_text<P: Closed>(alloc: Global, bytes: &[u8]) -> Result<P::Value, Fault>
     ensures accepted { IfOk result (λ value. IsAccepted P.Part.spells bytes.now value) }
     ensures rejected { IfRefused result (λ refusal. IsRejected P.Part.spells bytes.now refusal) }
 {

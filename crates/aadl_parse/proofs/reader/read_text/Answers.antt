@@ -13,7 +13,7 @@ use Rattle.aadl_parse.specs.Stops.{HasTokens}
 use Rattle.aadl_parse.specs.Refusals.{IsAccepted, IsRejected, IfRefused, IsSound, FailsAt, too_long}
 use Rattle.aadl_parse.proofs.Failures.{rejected, accepted}
 use Rattle.aadl_parse.proofs.Parses.{sound-accepted, failure-rejected, IfRefused-weaker}
-use Rattle.aadl_parse.proofs.parse.read_text.Goals as goal
+use Rattle.aadl_parse.proofs.reader.read_text.Goals as goal
 
 pub returns-clause-accepted : goal.returns-clause-accepted
 returns-clause-accepted g c =
