@@ -1,8 +1,10 @@
 //! Tokens of texts, and where and why they end.
 
+use crate::package::PackageText;
+use crate::part::Part;
 use crate::{Stop, read_tokens};
 use aadl_tree::Token;
-use hw_text::{NoMemory, Place, TextBuf};
+use hw_text::{Cursor, NoMemory, Place, ReadFault, TextBuf};
 use std::alloc::Global;
 use std::test::Fail;
 
@@ -118,4 +120,106 @@ fn tell_token(told: &mut TextBuf, token: &Token) -> Result<(), NoMemory> {
 fn tell_kind(told: &mut TextBuf, kind: &[u8], text: &[u8]) -> Result<(), NoMemory> {
     told.word(kind)?;
     told.word(text)
+}
+
+#[test]
+fn packages_are_read_up_to_where_none_goes_on(rt: HostRuntime) -> Result<(), Fail> {
+    let rows: [(&[u8], &[u8]); 24] = [
+        (b"package P public end P;", b"1:24 whole"),
+        (
+            b"package A::B public with C, D::E; end A::B;",
+            b"1:44 whole",
+        ),
+        (b"package P public data D end D; end P;", b"1:38 whole"),
+        (
+            b"package P public device S features o: out event data port Base_Types::Integer_32 {Queue_Size => 2;}; end S; end P;",
+            b"1:115 whole",
+        ),
+        (
+            b"package P public thread T features none; properties Period => 1 ms .. +5.5 ms; A::B +=> constant (\"x\", (), [a => true; ]), reference (a.b), classifier (t.i) applies to a, b.c; annex G {** x **}; end T; end P;",
+            b"1:209 whole",
+        ),
+        (
+            b"package P public process implementation P.i subcomponents t: thread T.i; connections c: port x -> t.x; d: port t.y -> y {}; properties none; annex a none; end P.i; annex l {** **}; end P;",
+            b"1:188 whole",
+        ),
+        (b"", b"1:1 stuck"),
+        (b"package P public end P", b"1:23 stuck"),
+        (b"package P public end P; x", b"1:25 stuck"),
+        (b"package in public end P;", b"1:9 stuck"),
+        (
+            b"package P public device D extends E end D; end P;",
+            b"1:27 stuck",
+        ),
+        (
+            b"package P public device D features x: in out data port T; end D; end P;",
+            b"1:42 stuck",
+        ),
+        (
+            b"package P public device D features x: in data port Base_Types.x; end D; end P;",
+            b"1:62 stuck",
+        ),
+        (
+            b"package P public device D features x: in data port Base_Types::Float; end D; end P;",
+            b"1:64 stuck",
+        ),
+        (
+            b"package P public device D features end D; end P;",
+            b"1:36 stuck",
+        ),
+        (
+            b"package P public device D properties a => 1 .. x; end D; end P;",
+            b"1:48 stuck",
+        ),
+        (
+            b"package P public device D properties a => (1, ); end D; end P;",
+            b"1:47 stuck",
+        ),
+        (
+            b"package P public device D properties a => [b => 1]; end D; end P;",
+            b"1:50 stuck",
+        ),
+        (
+            b"package P public device D properties a => + ms; end D; end P;",
+            b"1:45 stuck",
+        ),
+        (
+            b"package P public device D properties a => 1 x y; end D; end P;",
+            b"1:47 stuck",
+        ),
+        (
+            b"package P public system implementation S end S.i; end P;",
+            b"1:42 stuck",
+        ),
+        (
+            b"package P public system S connections c: port a -> b; end S; end P;",
+            b"1:27 stuck",
+        ),
+        (b"package P public annex a; end P;", b"1:25 stuck"),
+        (b"package P public \"a\" end P;", b"1:18 stuck"),
+    ];
+    for (text, told) in rows {
+        let printed = reading_told(rt.alloc(), text)?;
+        assert_eq!(rt; printed.rows(), told);
+    }
+    Ok(())
+}
+
+/// Where the reading of a package ends, and whether the package was read.
+fn reading_told(alloc: Global, text: &[u8]) -> Result<TextBuf, NoMemory> {
+    let read = read_tokens(alloc, text)?;
+    let mut cursor = Cursor::new(read.tokens.rows());
+    let package = PackageText::read(alloc, &mut cursor);
+    let place = match cursor.peek() {
+        Some(placed) => placed.place,
+        None => read.end,
+    };
+    let mut told = TextBuf::new(alloc);
+    tell_place(&mut told, place)?;
+    told.word(match package {
+        Ok(_) if cursor.left() == 0 => b"whole",
+        Ok(_) | Err(ReadFault::Syntax) => b"stuck",
+        Err(ReadFault::NoMemory) => return Err(NoMemory),
+    })?;
+    Ok(told)
 }
