@@ -85,8 +85,8 @@ mutual
       none-from ts (sign mark.OpenParenthesis p ∷ us ++ sign mark.CloseParenthesis q ∷ []) a (none-before (sign mark.OpenParenthesis p) (us ++ sign mark.CloseParenthesis q ∷ []) refl (closing-none us (sign mark.CloseParenthesis q) refl (expression-none 0 e us b)))
   expression-none n e ts (quantified _ at p i b c q all x from below body fs bs us _ _ a d f g h) =
       let front : NoSemicolon (sign mark.OpenParenthesis p ∷ keyword (quantifier_word all) at ∷ name_token x ∷ keyword word.In i ∷ fs) =
-        none-before (sign mark.OpenParenthesis p) (keyword (quantifier_word all) at ∷ name_token x ∷ keyword word.In i ∷ fs) refl
-        (none-before (keyword (quantifier_word all) at) (name_token x ∷ keyword word.In i ∷ fs) refl (none-before (name_token x) (keyword word.In i ∷ fs) refl (none-before (keyword word.In i) fs refl (bound-none at from.place from.negative from.number fs f)))) in
+      none-before (sign mark.OpenParenthesis p) (keyword (quantifier_word all) at ∷ name_token x ∷ keyword word.In i ∷ fs) refl
+      (none-before (keyword (quantifier_word all) at) (name_token x ∷ keyword word.In i ∷ fs) refl (none-before (name_token x) (keyword word.In i ∷ fs) refl (none-before (keyword word.In i) fs refl (bound-none at from.place from.negative from.number fs f)))) in
       let middle = none-both (sign mark.OpenParenthesis p ∷ keyword (quantifier_word all) at ∷ name_token x ∷ keyword word.In i ∷ fs) (sign mark.Below b ∷ bs) front (none-before (sign mark.Below b) bs refl (bound-none at below.place below.negative below.number bs g)) in
       let most = none-both (sign mark.OpenParenthesis p ∷ keyword (quantifier_word all) at ∷ name_token x ∷ keyword word.In i ∷ fs ++ sign mark.Below b ∷ bs) (sign mark.Colon c ∷ us) middle (none-before (sign mark.Colon c) us refl (expression-none 0 body us h)) in
       none-from ts (sign mark.OpenParenthesis p ∷ keyword (quantifier_word all) at ∷ name_token x ∷ keyword word.In i ∷ fs ++ sign mark.Below b ∷ bs ++ sign mark.Colon c ∷ us ++ sign mark.CloseParenthesis q ∷ []) d
@@ -111,7 +111,8 @@ body-complete e ws q rest s =
     let done = expression-complete (length ws + 0) e ws s (omega arith) in
     record {
       level = done.level;
-      equal = body-split ws (sign mark.Semicolon q ∷ rest) (expression-none 0 e ws s) ∙ ap (λ (x : Answer Operand). ended (sign mark.Semicolon q ∷ rest) x) done.equal }
+      equal = body-split ws (sign mark.Semicolon q ∷ rest) (expression-none 0 e ws s) ∙ ap (λ (x : Answer Operand). ended (sign mark.Semicolon q ∷ rest) x) done.equal;
+    }
 
 description-complete : (d : Option (List ℕ)) (ds : Tokens) (p : Place) (rest : Tokens) → SpellsDescription d ds → or_else (chosen described_of (ds ++ (sign mark.Colon p ∷ rest))) (Ok (None, ds ++ (sign mark.Colon p ∷ rest))) ≡ Ok (d, sign mark.Colon p ∷ rest)
 description-complete None ds p rest w = ap (λ (v : Tokens). or_else (chosen described_of (v ++ (sign mark.Colon p ∷ rest))) (Ok (None, v ++ (sign mark.Colon p ∷ rest)))) w
@@ -124,7 +125,7 @@ clause-read : (c : Clause) (ts rest : Tokens) (w : SpellsClause c ts) → clause
 clause-read c ts rest w =
     let done = body-complete c.expression w.4 w.2 rest w.7 in
     ap (λ (a : Answer (Option (List ℕ))). next a (λ d vs. next (take_one (sign_of mark.Colon) vs) (λ p ws. next (body ws) (λ o rest. Ok (record { kind = c.kind; name = c.name; description = d; expression_place = o.place; expression = o.expression }, rest)))))
-      (description-complete c.description w.3 w.1 (w.4 ++ (sign mark.Semicolon w.2 ∷ rest)) w.6) ∙
+    (description-complete c.description w.3 w.1 (w.4 ++ (sign mark.Semicolon w.2 ∷ rest)) w.6) ∙
     ap (λ (a : Answer Operand). next a (λ o rest. Ok (record { kind = c.kind; name = c.name; description = c.description; expression_place = o.place; expression = o.expression }, rest))) done.equal ∙
     ap (λ (s : Place). Ok (record { kind = c.kind; name = c.name; description = c.description; expression_place = s; expression = c.expression }, rest)) (sym w.8)
 

@@ -47,7 +47,9 @@ judged-earlier held after tree trace found kept by = record {
   judged = record {
     bytes = by.judged.bytes;
     trace_held = sym (kept trace) ∙ by.judged.trace_held;
-    judged = by.judged.judged } }
+    judged = by.judged.judged;
+  };
+}
 
 earlier : (held after : List ℕ → Option (List ℕ)) (tree : Package) (trace : List ℕ) (found : Judgement) → ((name : List ℕ) → after name ≡ held name) → IsJudged after tree trace found → IsJudged held tree trace found
 earlier held after tree trace judgement.NotBuilt kept by = by
@@ -59,4 +61,5 @@ pub tells-earlier : (held after : List ℕ → Option (List ℕ)) (model trace :
 tells-earlier held after model trace tree report kept tells = record {
   found = tells.found;
   judged = earlier held after tree trace tells.found kept tells.judged;
-  told = tells.told }
+  told = tells.told;
+}

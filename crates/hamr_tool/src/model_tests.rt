@@ -12,17 +12,41 @@ const SPOILED: [(&str, &str, &str); 24] = [
     ("package", "-- package", "refused m 2:1 Syntax\n"),
     ("J public", "J", "refused m 2:1 Syntax\n"),
     ("end J;", "end J", "refused m 8:1 Syntax\n"),
-    ("device Src features", "device Src extends Src features", "refused m 3:12 Unsupported extends\n"),
-    ("with Base_Types", "with Base_Types {**", "refused m 2:17 BadToken\n"),
+    (
+        "device Src features",
+        "device Src extends Src features",
+        "refused m 3:12 Unsupported extends\n",
+    ),
+    (
+        "with Base_Types",
+        "with Base_Types {**",
+        "refused m 2:17 BadToken\n",
+    ),
     ("src: device", "thread: device", "refused m 6:43 Syntax\n"),
     ("=> 2", "=> 1__0", "refused m 4:82 BadToken\n"),
     ("Queue_Size", "Queue__Size", "refused m 4:72 BadToken\n"),
-    ("device Src features", "thread Src features", "refused m 1:1 NotBuilt\n"),
+    (
+        "device Src features",
+        "thread Src features",
+        "refused m 1:1 NotBuilt\n",
+    ),
     ("end Src", "end Source", "refused m 1:1 NotBuilt\n"),
-    ("system Top end Top", "system Top end Tip", "refused m 1:1 NotBuilt\n"),
+    (
+        "system Top end Top",
+        "system Top end Tip",
+        "refused m 1:1 NotBuilt\n",
+    ),
     ("end Top.i", "end Top.j", "refused m 1:1 NotBuilt\n"),
-    ("implementation Top.i", "implementation Tip.i", "refused m 1:1 NotBuilt\n"),
-    ("snk.x;", "snk.x; l: port src.o -> snk.x;", "refused m 1:1 NotBuilt\n"),
+    (
+        "implementation Top.i",
+        "implementation Tip.i",
+        "refused m 1:1 NotBuilt\n",
+    ),
+    (
+        "snk.x;",
+        "snk.x; l: port src.o -> snk.x;",
+        "refused m 1:1 NotBuilt\n",
+    ),
     ("src.o ->", "snk.x ->", "refused m 1:1 NotBuilt\n"),
     ("-> snk.x", "-> src.o", "refused m 1:1 NotBuilt\n"),
     ("-> snk.x", "-> snk.y", "refused m 1:1 NotBuilt\n"),
@@ -32,7 +56,11 @@ const SPOILED: [(&str, &str, &str); 24] = [
     ("{Queue_Size => 2;}", "{}", "refused m 1:1 NotBuilt\n"),
     ("Snk features", "Src features", "refused m 1:1 NotBuilt\n"),
     ("k: port", "src: port", "refused m 1:1 NotBuilt\n"),
-    ("snk: device Snk", "snk: device Sink", "refused m 1:1 NotBuilt\n"),
+    (
+        "snk: device Snk",
+        "snk: device Sink",
+        "refused m 1:1 NotBuilt\n",
+    ),
 ];
 
 /// What is replaced there, and by what, so that it is another thin model.
@@ -70,7 +98,12 @@ end j;
 ";
 
 /// What is printed for these words, the model being `m` and the empty trace `t`.
-fn printed(alloc: Global, sink: &mut MemSink, text: &[u8], words: &[&[u8]]) -> Result<Status, Fail> {
+fn printed(
+    alloc: Global,
+    sink: &mut MemSink,
+    text: &[u8],
+    words: &[&[u8]],
+) -> Result<Status, Fail> {
     let mut store = MemStore::new(alloc);
     store.add("m", text)?;
     store.add("t", b"")?;
@@ -143,7 +176,10 @@ fn models_are_tidied(rt: HostRuntime) -> Result<(), Fail> {
     }
     let rows: [(&[u8], &[u8]); 3] = [
         (b"", b"refused m 1:1 Syntax\n"),
-        (b"-- \xff\r\npackage p public\x7f", b"refused m 2:17 BadByte\n"),
+        (
+            b"-- \xff\r\npackage p public\x7f",
+            b"refused m 2:17 BadByte\n",
+        ),
         (b"package p.q public", b"refused m 1:10 Syntax\n"),
     ];
     for (text, line) in rows {

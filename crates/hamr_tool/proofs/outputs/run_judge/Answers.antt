@@ -37,11 +37,12 @@ returns-in-Package-clause-given g c =
     (λ report. g.S.Store.tells c.read_model.new.store ≡ true → JudgeTells (g.S.Store.held c.read_model.new.store) model trace tree report)
     (λ report. g.S.Store.tells old ≡ true → OnModel (g.S.Store.held old) model (JudgeTells (g.S.Store.held old) model trace) report)
     (λ report told tells.
-      let file = rw c.in-Package.is at (c.in_ok-tree.ensures.text tells) in
-      inr (record {
-        bytes = file.bytes;
-        model_held = file.model_held;
-        tree = tree;
-        accepted = file.is_text;
-        tells = tells-earlier (g.S.Store.held old) (g.S.Store.held c.read_model.new.store) model trace tree report c.read_model.ensures.kept (told (c.read_model.ensures.tells ∙ tells)) }))
+    let file = rw c.in-Package.is at (c.in_ok-tree.ensures.text tells) in
+    inr (record {
+      bytes = file.bytes;
+      model_held = file.model_held;
+      tree = tree;
+      accepted = file.is_text;
+      tells = tells-earlier (g.S.Store.held old) (g.S.Store.held c.read_model.new.store) model trace tree report c.read_model.ensures.kept (told (c.read_model.ensures.tells ∙ tells));
+    }))
     c.judge_model.ensures.given
