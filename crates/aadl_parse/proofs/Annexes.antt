@@ -1,5 +1,5 @@
 -- What stands before the end of an annex text has no such end in it.
-use Rattle.std.proofs.Common.{◌≡◌, ℕ, ◌+◌, Bool, true, false, ◌==◌, List, [], ◌∷◌, take, zero, suc, codes, Option, Some, None, refl, add-one, cond}
+use Rattle.std.proofs.Common.{◌≡◌, ℕ, ◌+◌, Bool, true, false, ◌==◌, List, [], ◌∷◌, take, zero, suc, codes, Option, None, refl, add-one, cond}
 use Rattle.std.specs.Prelude.{is_some}
 use Rattle.hw_text.specs.Text.{behind_bytes}
 use Rattle.aadl_tree.specs.Text.{annex_length}

@@ -1,6 +1,6 @@
 -- A text has one list of tokens and at most one first failure, and no text has a failure that is a model.
-use Rattle.std.proofs.Common.{◌≡◌, ◌∙◌, refl, sym, ap, subst, ℕ, zero, suc, ◌+◌, ◌-◌, ◌<◌, ◌≤◌, min, List, [], ◌∷◌, ◌++◌, length, take, drop, slice_get, take-take, take-append-drop, append_assoc, arith, Option, Some, None, inl, inr}
-use Rattle.std.specs.Prelude.{◌⊎◌, is_some}
+use Rattle.std.proofs.Common.{◌≡◌, ◌∙◌, refl, sym, ap, subst, ℕ, ◌+◌, ◌<◌, ◌≤◌, List, [], ◌∷◌, ◌++◌, take, drop, slice_get, take-take, take-append-drop, append_assoc, arith, Option, Some, None, inl, inr}
+use Rattle.std.specs.Prelude.{is_some}
 use Rattle.std.proofs.lemmas.Bool.{false≢true}
 use Rattle.std.proofs.lemmas.Option.{same_Some, slice_get_within, slice_get_cases}
 use Rattle.std.proofs.lemmas.Bool.{cases_order}
@@ -12,13 +12,12 @@ use Rattle.hw_text.specs.Tokens.{AreTokensOf}
 use Rattle.hw_text.specs.Text.{skipped}
 use Rattle.aadl_tree.specs.declared.token.Token.{Token}
 use Rattle.aadl_tree.specs.Tokens.{token_at}
-use Rattle.aadl_parse.specs.declared.flaw.Flaw.{Flaw}
 use Rattle.aadl_parse.specs.declared.stop.Stop.{Stop}
 use Rattle.aadl_parse.specs.declared.stop.Stop.TheVariants as stop
 use Rattle.aadl_parse.specs.Flaws.{flaw_at}
 use Rattle.aadl_parse.specs.Stops.{HasTokens, stop_at}
 use Rattle.aadl_parse.specs.Whole.{GoesOn}
-use Rattle.aadl_parse.specs.Refusals.{IsTextOf, FailsThere, FailsAt, FailsFirst, IsRefusedAs, IsAccepted, IsRejected, stopped, unexpected, flawed, too_long}
+use Rattle.aadl_parse.specs.Refusals.{IsTextOf, FailsThere, FailsAt, FailsFirst, IsRefusedAs, IsAccepted, IsRejected, flawed}
 
 none-some : {X : Type 0} (x : X) → None ≡ Some x → ⊥
 none-some x same = false≢true (ap is_some same)

@@ -1,8 +1,8 @@
 -- What has been read of a part and of others behind it, which make one list.
-use Rattle.std.proofs.Common.{◌≡◌, ◌∙◌, refl, sym, ap, subst, ℕ, List, [], ◌∷◌, ◌++◌, Bool, true, false}
+use Rattle.std.proofs.Common.{◌≡◌, refl, subst, ℕ, List, [], ◌∷◌, ◌++◌, true}
 use Rattle.std.specs.Prelude.{Result, Ok, Err}
 use Rattle.hw_text.specs.Language.{◌⋅◌, Each, Made}
-use Rattle.hw_text.specs.Reading.{begins, Begins, Reached, Stuck, Reads, Leaves}
+use Rattle.hw_text.specs.Reading.{Begins, Reached, Stuck, Reads, Leaves}
 use Rattle.hw_text.specs.declared.read_fault.ReadFault.{ReadFault}
 use Rattle.hw_text.specs.declared.read_fault.ReadFault.TheVariants.{Syntax, NoMemory}
 use Rattle.hw_text.proofs.Reading.{begun, step, stuck, last, last-stuck}

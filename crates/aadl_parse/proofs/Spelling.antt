@@ -1,7 +1,7 @@
 -- Words at the front of a text are spelled as names are, and are reserved or names.
-use Rattle.std.proofs.Common.{◌≡◌, ℕ, ◌+◌, Bool, true, false, ◌&&◌, ◌||◌, not, ◌==◌, List, [], ◌∷◌, map, take, Option, Some, None, refl, sym, ap, ◌∙◌, add-one, cond}
+use Rattle.std.proofs.Common.{◌≡◌, ℕ, ◌+◌, Bool, true, false, ◌&&◌, ◌||◌, ◌==◌, List, [], ◌∷◌, map, take, Option, Some, None, refl, add-one, cond}
 use Rattle.std.specs.List.{list_any}
-use Rattle.hw_text.specs.Name.{is_letter, is_digit, is_letter_or_digit, is_name_tail, is_spelled_as_name, is_same_word, is_reserved, reserved_words, is_name}
+use Rattle.hw_text.specs.Name.{is_letter_or_digit, is_name_tail, is_spelled_as_name, is_same_word, is_reserved, is_name}
 use Rattle.hw_text.specs.Text.{begins_in, run_length}
 use Rattle.hw_text.specs.declared.bytes.ByteClass.TheVariants.{LettersAndDigits}
 use Rattle.aadl_tree.specs.declared.word.Word.{Word}

@@ -1,5 +1,5 @@
 -- Which texts are models, and why others are refused: for the first failure in the text (this project's own; docs/formats/model.md).
-use Rattle.std.specs.Prelude.{◌≡◌, ◌≤◌, ◌<◌, ◌+◌, ◌⊎◌, ℕ, pos, min, if◌then◌else◌, List, [], ◌∷◌, length, take, slice_get, codes, Option, Some, None, Result, Ok, Err}
+use Rattle.std.specs.Prelude.{◌≡◌, ◌≤◌, ◌<◌, ◌+◌, ◌⊎◌, ℕ, pos, min, if◌then◌else◌, List, [], length, take, slice_get, codes, Option, Some, None, Result, Ok, Err}
 use Rattle.hw_text.specs.declared.code.Code.{Code}
 use Rattle.hw_text.specs.declared.code.Code.TheVariants as code
 use Rattle.hw_text.specs.declared.fault.Fault.{Fault}

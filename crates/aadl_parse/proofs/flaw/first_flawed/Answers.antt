@@ -1,5 +1,5 @@
-use Rattle.std.proofs.Common.{◌≡◌, ◌<◌, ℕ, length, None, sym, ap, ◌∙◌, arith, below_more}
-use Rattle.aadl_parse.specs.Flaws.{flaw_at, open_behind_token}
+use Rattle.std.proofs.Common.{ℕ, sym, ap, ◌∙◌, arith, below_more}
+use Rattle.aadl_parse.specs.Flaws.{open_behind_token}
 use Rattle.aadl_parse.proofs.Flawless.{open-more, no-flaw-here, no-flaw}
 use Rattle.aadl_parse.proofs.flaw.first_flawed.Goals as goal
 

@@ -1,4 +1,4 @@
-use Rattle.std.proofs.Common.{◌≡◌, ◌∙◌, refl, sym, ap, ◌+◌, List, take}
+use Rattle.std.proofs.Common.{◌∙◌, ap, ◌+◌, List, take}
 use Rattle.hw_text.specs.declared.placed.Placed.{Placed}
 use Rattle.aadl_tree.specs.declared.token.Token.{Token}
 use Rattle.aadl_parse.proofs.Parses.{told-read, told-passed, told-stuck}

@@ -1,10 +1,5 @@
-use Rattle.std.proofs.Common.{◌≡◌, ◌∙◌, refl, sym, ap, subst, List, length}
-use Rattle.hw_text.specs.declared.placed.Placed.{Placed}
-use Rattle.hw_text.specs.declared.refusal.Refusal.{Refusal}
-use Rattle.aadl_tree.specs.declared.token.Token.{Token}
-use Rattle.aadl_parse.specs.declared.whole.Whole.{Whole}
-use Rattle.aadl_parse.specs.Whole.{IsWhole}
-use Rattle.aadl_parse.specs.Refusals.{FailsAt, unexpected_there}
+use Rattle.std.proofs.Common.{◌∙◌, sym, ap, subst, length}
+use Rattle.aadl_parse.specs.Refusals.{FailsAt}
 use denote.Enum.Bare.{sameb}
 use Rattle.std.proofs.lemmas.Bool.{false≢true}
 use Rattle.aadl_parse.specs.declared.stop.Stop.{Stop}

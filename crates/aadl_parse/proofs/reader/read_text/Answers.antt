@@ -1,17 +1,6 @@
-use Rattle.std.proofs.Common.{◌≡◌, ◌∙◌, refl, sym, ap, subst, ℕ, ◌≤◌, length, List, Ok, Err, Result, inl, inr, arith}
-use Rattle.std.specs.Prelude.{IfOk}
+use Rattle.std.proofs.Common.{ℕ, arith}
 use Rattle.std.proofs.lemmas.Result.{IfOk-weaker}
-use Rattle.hw_text.specs.declared.fault.Fault.{Fault}
-use Rattle.hw_text.specs.declared.fault.Fault.TheVariants as fault
-use Rattle.hw_text.specs.declared.placed.Placed.{Placed}
-use Rattle.hw_text.specs.declared.place.Place.{Place}
-use Rattle.hw_text.specs.declared.refusal.Refusal.{Refusal}
-use Rattle.aadl_tree.specs.declared.token.Token.{Token}
-use Rattle.aadl_parse.specs.declared.stop.Stop.{Stop}
-use Rattle.aadl_parse.specs.declared.stop.Stop.TheVariants as stop
-use Rattle.aadl_parse.specs.Stops.{HasTokens}
-use Rattle.aadl_parse.specs.Refusals.{IsAccepted, IsRejected, IfRefused, IsSound, FailsAt, too_long}
-use Rattle.aadl_parse.proofs.Failures.{rejected, accepted}
+use Rattle.aadl_parse.specs.Refusals.{IsAccepted, IsRejected, IsSound, FailsAt}
 use Rattle.aadl_parse.proofs.Parses.{sound-accepted, failure-rejected, IfRefused-weaker}
 use Rattle.aadl_parse.proofs.reader.read_text.Goals as goal
 

@@ -1,4 +1,4 @@
-use Rattle.std.proofs.Common.{◌≡◌, ◌∙◌, refl, sym, ap, subst, ℕ, ◌-◌, length, List, arith}
+use Rattle.std.proofs.Common.{◌∙◌, sym, subst, ℕ, ◌-◌, length, List}
 use Rattle.hw_text.specs.declared.placed.Placed.{Placed}
 use Rattle.hw_text.specs.Reading.{Reached, Stuck, Reads}
 use Rattle.hw_text.specs.declared.read_fault.ReadFault.{ReadFault}

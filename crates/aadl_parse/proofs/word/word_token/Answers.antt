@@ -1,4 +1,4 @@
-use Rattle.std.proofs.Common.{◌≡◌, true, ap, ◌∙◌, take, List, ℕ}
+use Rattle.std.proofs.Common.{ap, ◌∙◌, take, List, ℕ}
 use Rattle.hw_text.specs.Name.{is_spelled_as_name}
 use Rattle.aadl_parse.proofs.Spelling.{run-spelled}
 use Rattle.aadl_parse.proofs.word.word_token.Goals as goal

@@ -1,4 +1,4 @@
-use Rattle.std.proofs.Common.{sym, ap, ◌∙◌, [], ◌∷◌, ◌++◌, refl}
+use Rattle.std.proofs.Common.{ap, ◌∙◌, [], ◌∷◌, ◌++◌}
 use Rattle.hw_text.proofs.Reading.{failed}
 use Rattle.aadl_parse.proofs.SomeOf.{head-stuck, some_of-read}
 use Rattle.aadl_parse.proofs.surround.AtLeastOnePart.read.Goals as goal

@@ -1,5 +1,5 @@
-use Rattle.std.proofs.Common.{◌++◌, [], refl}
-use Rattle.hw_text.specs.Language.{Maybe, Each}
+use Rattle.std.proofs.Common.{◌++◌}
+use Rattle.hw_text.specs.Language.{Each}
 use Rattle.hw_text.proofs.Reading.{failed}
 use Rattle.aadl_parse.specs.Shapes.{Without}
 use Rattle.aadl_parse.proofs.Sequences.{first-stuck, second-stuck, both-read, apart_both-follows}
