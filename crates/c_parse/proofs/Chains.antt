@@ -1,16 +1,14 @@
 -- What has been read of an expression with operators of one level, step by step.
-use Rattle.std.proofs.Common.{◌≡◌, ◌+◌, ◌<◌, ◌∙◌, refl, sym, ap, subst, ℕ, List, [], ◌∷◌, ◌++◌, Bool, true, false, Some, append_assoc, arith}
+use Rattle.std.proofs.Common.{◌≡◌, ◌+◌, ◌<◌, ◌∙◌, refl, sym, ap, ℕ, List, [], ◌∷◌, ◌++◌, Bool, true, false, append_assoc, arith}
 use Rattle.std.specs.Prelude.{⊤}
 use Rattle.std.proofs.lemmas.Bool.{false≢true}
 use Rattle.hw_text.specs.Language.{One, Nothing, ◌⋅◌, Made}
 use Rattle.hw_text.specs.Reading.{first, begins, Begins, Anything, Reached, Stuck, Leaves}
 use Rattle.hw_text.proofs.Reading.{begun, refined, ended, step, stuck, first-begins, never-begins, one-begins, then-begins}
 use Rattle.hw_text.specs.declared.place.Place.{Place}
-use Rattle.hw_text.specs.declared.placed.Placed.{Placed}
 use Rattle.c_tree.specs.declared.operator.BinaryOperator.{BinaryOperator}
 use Rattle.c_tree.specs.declared.expression.Expression.{Expression}
 use Rattle.c_tree.specs.declared.expression.Expression.TheVariants.{Binary}
-use Rattle.c_parse.specs.declared.token.Token.{Token}
 use Rattle.c_parse.specs.Values.{Tokens}
 use Rattle.c_parse.specs.Levels.{prefix_level}
 use Rattle.c_parse.specs.Operators.{binary_at, operates, goes_on, Ends}

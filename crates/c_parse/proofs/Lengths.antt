@@ -1,8 +1,7 @@
 -- What has been read of the length of an array, step by step.
-use Rattle.std.proofs.Common.{◌≡◌, refl, List, [], ◌∷◌, ◌++◌, Bool, true, false, Option, Some, None}
-use Rattle.std.specs.Prelude.{⊤}
-use Rattle.hw_text.specs.Language.{One, Nothing, ◌⋅◌, Made, Maybe}
-use Rattle.hw_text.specs.Reading.{first, begins, Begins, Anything, BeginsWithout, Reached, Stuck, Leaves}
+use Rattle.std.proofs.Common.{◌≡◌, refl, [], ◌∷◌, ◌++◌, Bool, true, false, Some, None}
+use Rattle.hw_text.specs.Language.{One, ◌⋅◌, Made}
+use Rattle.hw_text.specs.Reading.{begins, Begins, Anything, BeginsWithout, Reached, Stuck, Leaves}
 use Rattle.hw_text.proofs.Reading.{begun, unmade, some, none, step, stuck, last, last-stuck, ended, never-follows, one-begins, made-begins, then-begins}
 use Rattle.hw_text.specs.declared.place.Place.{Place}
 use Rattle.hw_text.specs.declared.placed.Placed.{Placed}

@@ -1,5 +1,5 @@
 -- With which tokens expressions of neighbouring levels go on.
-use Rattle.std.proofs.Common.{◌≡◌, ◌+◌, refl, ap, sym, ◌∙◌, ℕ, Bool, true, false, ◌||◌, ◌==◌, List, [], ◌∷◌, Option, Some, None, cond, arith}
+use Rattle.std.proofs.Common.{◌≡◌, ◌+◌, refl, ℕ, Bool, true, false, ◌||◌, ◌==◌, [], ◌∷◌, Option, Some, None, cond, arith}
 use Rattle.std.proofs.lemmas.Bool.Decides.{nat_tests}
 use Rattle.std.specs.Prelude.{is_some, nat_le}
 use Rattle.std.proofs.lemmas.Bool.{false≢true}

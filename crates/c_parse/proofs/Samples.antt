@@ -1,11 +1,10 @@
 -- Texts that the grammar has: what stands alone is an expression of each level, and small texts are spelled as they should be.
-use Rattle.std.proofs.Common.{◌≡◌, ◌+◌, refl, sym, ℕ, suc, zero, List, [], ◌∷◌, ◌++◌, append-nil, arith, Bool, true, false, inl, inr}
+use Rattle.std.proofs.Common.{◌≡◌, ◌+◌, refl, sym, ℕ, suc, zero, List, [], ◌∷◌, append-nil, arith, Bool, true, false, inl, inr}
 use Rattle.hw_text.specs.declared.placed.Placed.{Placed}
 use Rattle.c_tree.specs.declared.expression.Expression.{Expression}
-use Rattle.c_tree.specs.declared.expression.Expression.TheVariants.{Number, Binary}
+use Rattle.c_tree.specs.declared.expression.Expression.TheVariants.{Number}
 use Rattle.c_tree.specs.declared.named.Named.{Named}
 use Rattle.c_tree.specs.declared.named.Literal.{Literal}
-use Rattle.c_tree.specs.declared.operator.BinaryOperator.TheVariants.{Add}
 use Rattle.c_tree.specs.declared.item.Item.TheVariants as item
 use Rattle.c_parse.specs.declared.token.Token.{Token}
 use Rattle.c_parse.specs.declared.token.Token.TheVariants as token
@@ -14,7 +13,7 @@ use Rattle.c_parse.specs.declared.mark.Mark.TheVariants as mark
 use Rattle.c_parse.specs.Tokens.{start}
 use Rattle.c_parse.specs.Values.{Tokens}
 use Rattle.c_parse.specs.Levels.{prefix_level}
-use Rattle.c_parse.specs.ExpressionGrammar.{SpellsExpression, chain, prefix, no_operation, an_operation, SpellsPrefix, number}
+use Rattle.c_parse.specs.ExpressionGrammar.{SpellsExpression, chain, prefix, no_operation, SpellsPrefix, number}
 use Rattle.c_parse.specs.UnitGrammar.{SpellsItem}
 
 -- an expression without operators between operands is one of each level

@@ -1,5 +1,5 @@
 -- Each mark and each word is read as itself.
-use Rattle.std.proofs.Common.{◌≡◌, refl, Option, Some}
+use Rattle.std.proofs.Common.{◌≡◌, refl, Some}
 use Rattle.c_tree.specs.declared.integer_type.IntegerType.TheVariants as integer
 use Rattle.c_parse.specs.declared.keyword.Keyword.{Keyword}
 use Rattle.c_parse.specs.declared.keyword.Keyword.TheVariants as keyword

@@ -1,8 +1,8 @@
 -- What has been read of a type, of a literal behind a minus, or of a length, step by step.
-use Rattle.std.proofs.Common.{◌≡◌, refl, ap, ℕ, List, [], ◌∷◌, ◌++◌, Bool, true, false, Option, Some, None}
-use Rattle.hw_text.specs.Language.{One, ◌⋅◌, Made, ◌∣◌, Maybe}
-use Rattle.hw_text.specs.Reading.{first, begins, Begins, Anything, BeginsWithout, Reached, Stuck, Leaves}
-use Rattle.hw_text.proofs.Reading.{begun, left, right, unmade, some, none, step, stuck, last, last-stuck, ended, never-follows, one-begins, made-begins, then-begins, either-begins}
+use Rattle.std.proofs.Common.{◌≡◌, refl, [], ◌∷◌, Bool, true, false}
+use Rattle.hw_text.specs.Language.{One, ◌⋅◌, Made, ◌∣◌}
+use Rattle.hw_text.specs.Reading.{begins, Begins, Anything, Reached, Stuck, Leaves}
+use Rattle.hw_text.proofs.Reading.{begun, left, right, unmade, step, stuck, last, last-stuck, one-begins, made-begins, then-begins, either-begins}
 use Rattle.hw_text.specs.declared.place.Place.{Place}
 use Rattle.hw_text.specs.declared.placed.Placed.{Placed}
 use Rattle.c_tree.specs.declared.integer_type.IntegerType.{IntegerType}
@@ -19,7 +19,6 @@ use Rattle.c_parse.specs.Tokens.{start}
 use Rattle.c_parse.specs.Values.{Tokens, mark_of, keyword_of, name_of, literal_of, integer_of, is_mark, is_word, is_integer}
 use Rattle.c_parse.specs.ExpressionGrammar.{Sign, Name}
 use Rattle.c_parse.specs.CallGrammar.{Word, SpellsType, integer_name, SpellsSigned, plain_literal, negative_literal}
-use Rattle.c_parse.specs.TypedefGrammar.{SpellsLength}
 use Rattle.c_parse.proofs.TokenKinds.{some-is, not-there, none-there, bool-no-integer, name-no-word, name-no-integer, literal-no-mark}
 
 abbrev IntegerForm : TypeName → Tokens → Type 0

@@ -1,9 +1,9 @@
 -- The grammar of statements, in the user grammar or the full one (docs/formats/c.md).
-use Rattle.std.specs.Prelude.{◌≡◌, ℕ, ◌+◌, ◌-◌, ◌^◌, ℤ, pos, neg_ℤ, ◌<ℤ◌, Bool, true, false, IsTrue, nat_lt, if◌then◌else◌, List, [], ◌∷◌, ◌++◌, Option, Some, None}
+use Rattle.std.specs.Prelude.{◌≡◌, ℕ, ◌-◌, ◌^◌, ℤ, pos, neg_ℤ, ◌<ℤ◌, Bool, IsTrue, nat_lt, if◌then◌else◌, List, [], ◌∷◌, ◌++◌, Option, Some}
 use Rattle.hw_text.specs.declared.place.Place.{Place}
 use Rattle.hw_text.specs.Language.{One, ◌⋅◌, Made, ◌∣◌}
 use Rattle.c_tree.specs.declared.integer_type.IntegerType.{IntegerType}
-use Rattle.c_tree.specs.declared.integer_type.IntegerType.TheVariants.{I8, I16, I32, I64, U8, U16, U32, U64}
+use Rattle.c_tree.specs.declared.integer_type.IntegerType.TheVariants.{U32, U64}
 use Rattle.c_tree.specs.declared.named.Named.{Named}
 use Rattle.c_tree.specs.declared.named.Literal.{Literal}
 use Rattle.c_tree.specs.declared.named.SignedLiteral.{SignedLiteral}

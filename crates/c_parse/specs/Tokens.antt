@@ -1,5 +1,5 @@
 -- The tokens of C (ISO/IEC 9899:2011, 6.4), as far as the subset has them (docs/formats/c.md).
-use Rattle.std.specs.Prelude.{◌≡◌, ℕ, ◌+◌, ◌-◌, Bool, false, ◌&&◌, ◌==◌, if◌then◌else◌, List, [], ◌∷◌, length, take, drop, Option, Some, None}
+use Rattle.std.specs.Prelude.{ℕ, ◌+◌, ◌-◌, Bool, false, ◌&&◌, ◌==◌, if◌then◌else◌, List, [], ◌∷◌, length, take, drop, Option, Some, None}
 use Rattle.std.specs.Option.{option_map}
 use Rattle.hw_text.specs.Name.{is_digit}
 use Rattle.hw_text.specs.Text.{begins_with}

@@ -4,10 +4,8 @@ use Rattle.hw_text.specs.declared.place.Place.{Place}
 use Rattle.hw_text.specs.Language.{One, Nothing, ◌⋅◌, Maybe, Each, Made, ◌∣◌}
 use Rattle.c_tree.specs.declared.named.Named.{Named}
 use Rattle.c_tree.specs.declared.named.Literal.{Literal}
-use Rattle.c_tree.specs.declared.named.SignedLiteral.{SignedLiteral}
 use Rattle.c_tree.specs.declared.type_name.TypeName.{TypeName}
 use Rattle.c_tree.specs.declared.expression.RightSide.{RightSide}
-use Rattle.c_tree.specs.declared.statement.Statement.{Statement}
 use Rattle.c_tree.specs.declared.item.InitialValue.{InitialValue}
 use Rattle.c_tree.specs.declared.item.InitialValue.TheVariants as initial
 use Rattle.c_tree.specs.declared.item.Variable.{Variable}

@@ -1,6 +1,6 @@
 use Rattle.std.proofs.Common.{sym, ◌∙◌}
 use Rattle.hw_text.proofs.Reading.{failed}
-use Rattle.c_parse.proofs.Lengths.{no-length, open-stuck, literal-stuck, close-stuck, length-read}
+use Rattle.c_parse.proofs.Lengths.{open-stuck, literal-stuck, close-stuck, length-read}
 use Rattle.c_parse.proofs.types.length.Goals as goal
 
 pub returns-in_err-sign : goal.returns-in_err-sign
