@@ -32,7 +32,7 @@ behind-good : (k : ℕ) → Good 0 IsBehind (λ j. name_behind) k
 behind-good k = good-take IsBehind name_of (λ x j rest. Ok (x.name, rest)) k someone (name_token someone) refl (λ x u named.
     good-done 0 (λ y vs. IsBehind y (u ∷ vs)) x.name k (x.place, ap (λ (v : Placed Token). v ∷ []) (name-is u x named)))
 
-abbrev IsStep : List ℕ → Tokens → Type 0
+abbrev pub IsStep : List ℕ → Tokens → Type 0
 IsStep n us = (p q : Place) × (us ≡ sign mark.DoubleColon p ∷ name_at n q ∷ [])
 
 step-larger : (t : Placed Token) → t ≡ sign mark.DoubleColon t.place → (n : List ℕ) (us : Tokens) → IsBehind n us → IsStep n (t ∷ us)
