@@ -1,24 +1,16 @@
 -- The reader of contracts finds each contract that is there.
-use Rattle.std.proofs.Common.{◌≡◌, ℕ, zero, suc, ◌+◌, ◌≤◌, ◌<◌, Bool, true, false, List, [], ◌∷◌, ◌++◌, length, Option, Some, None, Ok, Err, ◌⊎◌, inl, inr, sym, ap, ◌∙◌, subst, refl, append_assoc, length-append, arith}
-use Rattle.std.specs.Prelude.{codes, if◌then◌else◌}
-use Rattle.std.specs.Str.{bytes_eq}
+use Rattle.std.proofs.Common.{◌≡◌, ℕ, zero, suc, ◌+◌, ◌≤◌, Bool, true, false, List, [], ◌∷◌, ◌++◌, length, Option, Some, None, Ok, ◌⊎◌, inl, inr, sym, ap, ◌∙◌, subst, refl, append_assoc, length-append, arith}
+use Rattle.std.specs.Prelude.{if◌then◌else◌}
 use Rattle.std.proofs.lemmas.List.{append-nil}
-use Rattle.std.proofs.lemmas.Slice.Eq.{bytes_eq-Decides}
 use Rattle.hw_text.specs.declared.place.Place.{Place}
 use Rattle.hw_text.specs.declared.placed.Placed.{Placed}
 use Rattle.gumbo_parse.specs.declared.token.Token.{Token}
 use Rattle.gumbo_parse.specs.declared.token.Token.TheVariants as token
 use Rattle.gumbo_parse.specs.declared.word.Word.{Word}
 use Rattle.gumbo_parse.specs.declared.word.Word.TheVariants as word
-use Rattle.gumbo_parse.specs.declared.mark.Mark.{Mark}
 use Rattle.gumbo_parse.specs.declared.mark.Mark.TheVariants as mark
 use Rattle.gumbo_parse.specs.declared.operator.UnaryOperator.{UnaryOperator}
-use Rattle.gumbo_parse.specs.declared.operator.PortTest.{PortTest}
-use Rattle.gumbo_parse.specs.declared.operator.PortTest.TheVariants as test_variant
-use Rattle.gumbo_parse.specs.declared.operator.Quantifier.{Quantifier}
-use Rattle.gumbo_parse.specs.declared.operator.Quantifier.TheVariants as quantifier_variant
 use Rattle.gumbo_parse.specs.declared.expression.Named.{Named}
-use Rattle.gumbo_parse.specs.declared.expression.Bound.{Bound}
 use Rattle.gumbo_parse.specs.declared.expression.Selector.{Selector}
 use Rattle.gumbo_parse.specs.declared.expression.Expression.{Expression}
 use Rattle.gumbo_parse.specs.declared.operand.Operand.{Operand}
@@ -36,12 +28,11 @@ use Rattle.gumbo_parse.specs.declared.contract.Contract.{Contract}
 use Rattle.gumbo_parse.specs.Annex.{clause_word, SpellsEach, SpellsDescription, SpellsClause, SpellsSection, SpellsHandler, SpellsCompute, SpellsContract}
 use Rattle.gumbo_parse.specs.Classes.{base_name, name_at, SpellsPath, SpellsImplementation, SpellsClass, SpellsVariable}
 use Rattle.gumbo_parse.specs.Grammar.{Spells, number, truth, value, before, test, must_send, parenthesised, quantified, unary, binary, SpellsTail, nothing, field, index, SpellsBound, sign, keyword, name_token, number_token, truth_word, start_of, in_parentheses}
-use Rattle.gumbo_parse.specs.Operators.{unary_of, binary_of, test_word, quantifier_word}
-use Rattle.gumbo_parse.specs.Reading.{Tokens, Answer, stuck, next, chosen, or_else, taken, take_one, is_mark, is_word, sign_of, name_of}
-use Rattle.gumbo_parse.specs.Reader.{readers}
-use Rattle.gumbo_parse.specs.AnnexReader.{Choice, many, each, span, finished, ended, body, described_of, clause, kind_of, clause_if, clause_of, step_of, dotted_of, all_bases, base_among, base_of, base_type, model_type, class_named, class, typed, variable_at, variable_of, handler, handler_of, some, section_of, section, is_initialize, computed, compute_of, compute, contract}
+use Rattle.gumbo_parse.specs.Operators.{unary_of, test_word, quantifier_word}
+use Rattle.gumbo_parse.specs.Reading.{Tokens, Answer, stuck, next, chosen, or_else, taken, take_one, is_mark, is_word, sign_of}
+use Rattle.gumbo_parse.specs.AnnexReader.{Choice, many, each, span, ended, body, described_of, clause, kind_of, clause_if, clause_of, step_of, dotted_of, base_of, model_type, class_named, class, variable_at, variable_of, handler_of, some, section_of, section, is_initialize, compute, contract}
 use Rattle.gumbo_parse.proofs.TokenTests.{is_mark-true}
-use Rattle.gumbo_parse.proofs.Complete.{operator-no-mark, Ends, expression-complete}
+use Rattle.gumbo_parse.proofs.Complete.{operator-no-mark, expression-complete}
 use Rattle.gumbo_parse.proofs.BodyReads.{NoSemicolon, none-before, body-split}
 use Rattle.gumbo_parse.proofs.ClassReads.{IsStep}
 use Rattle.gumbo_parse.proofs.ManyLaws.{many-some, many-none}
@@ -86,8 +77,8 @@ mutual
       none-from ts (sign mark.OpenParenthesis p ∷ us ++ sign mark.CloseParenthesis q ∷ []) a (none-before (sign mark.OpenParenthesis p) (us ++ sign mark.CloseParenthesis q ∷ []) refl (closing-none us (sign mark.CloseParenthesis q) refl (expression-none 0 e us b)))
   expression-none n e ts (quantified _ at p i b c q all x from below body fs bs us _ _ a d f g h) =
       let front : NoSemicolon (sign mark.OpenParenthesis p ∷ keyword (quantifier_word all) at ∷ name_token x ∷ keyword word.In i ∷ fs) =
-        none-before (sign mark.OpenParenthesis p) (keyword (quantifier_word all) at ∷ name_token x ∷ keyword word.In i ∷ fs) refl
-        (none-before (keyword (quantifier_word all) at) (name_token x ∷ keyword word.In i ∷ fs) refl (none-before (name_token x) (keyword word.In i ∷ fs) refl (none-before (keyword word.In i) fs refl (bound-none at from.place from.negative from.number fs f)))) in
+      none-before (sign mark.OpenParenthesis p) (keyword (quantifier_word all) at ∷ name_token x ∷ keyword word.In i ∷ fs) refl
+      (none-before (keyword (quantifier_word all) at) (name_token x ∷ keyword word.In i ∷ fs) refl (none-before (name_token x) (keyword word.In i ∷ fs) refl (none-before (keyword word.In i) fs refl (bound-none at from.place from.negative from.number fs f)))) in
       let middle = none-both (sign mark.OpenParenthesis p ∷ keyword (quantifier_word all) at ∷ name_token x ∷ keyword word.In i ∷ fs) (sign mark.Below b ∷ bs) front (none-before (sign mark.Below b) bs refl (bound-none at below.place below.negative below.number bs g)) in
       let most = none-both (sign mark.OpenParenthesis p ∷ keyword (quantifier_word all) at ∷ name_token x ∷ keyword word.In i ∷ fs ++ sign mark.Below b ∷ bs) (sign mark.Colon c ∷ us) middle (none-before (sign mark.Colon c) us refl (expression-none 0 body us h)) in
       none-from ts (sign mark.OpenParenthesis p ∷ keyword (quantifier_word all) at ∷ name_token x ∷ keyword word.In i ∷ fs ++ sign mark.Below b ∷ bs ++ sign mark.Colon c ∷ us ++ sign mark.CloseParenthesis q ∷ []) d
@@ -112,7 +103,8 @@ body-complete e ws q rest s =
     let done = expression-complete (length ws + 0) e ws s (omega arith) in
     record {
       level = done.level;
-      equal = body-split ws (sign mark.Semicolon q ∷ rest) (expression-none 0 e ws s) ∙ ap (λ (x : Answer Operand). ended (sign mark.Semicolon q ∷ rest) x) done.equal }
+      equal = body-split ws (sign mark.Semicolon q ∷ rest) (expression-none 0 e ws s) ∙ ap (λ (x : Answer Operand). ended (sign mark.Semicolon q ∷ rest) x) done.equal;
+    }
 
 description-complete : (d : Option (List ℕ)) (ds : Tokens) (p : Place) (rest : Tokens) → SpellsDescription d ds → or_else (chosen described_of (ds ++ (sign mark.Colon p ∷ rest))) (Ok (None, ds ++ (sign mark.Colon p ∷ rest))) ≡ Ok (d, sign mark.Colon p ∷ rest)
 description-complete None ds p rest w = ap (λ (v : Tokens). or_else (chosen described_of (v ++ (sign mark.Colon p ∷ rest))) (Ok (None, v ++ (sign mark.Colon p ∷ rest)))) w
@@ -125,7 +117,7 @@ clause-read : (c : Clause) (ts rest : Tokens) (w : SpellsClause c ts) → clause
 clause-read c ts rest w =
     let done = body-complete c.expression w.4 w.2 rest w.7 in
     ap (λ (a : Answer (Option (List ℕ))). next a (λ d vs. next (take_one (sign_of mark.Colon) vs) (λ p ws. next (body ws) (λ o rest. Ok (record { kind = c.kind; name = c.name; description = d; expression_place = o.place; expression = o.expression }, rest)))))
-      (description-complete c.description w.3 w.1 (w.4 ++ (sign mark.Semicolon w.2 ∷ rest)) w.6) ∙
+    (description-complete c.description w.3 w.1 (w.4 ++ (sign mark.Semicolon w.2 ∷ rest)) w.6) ∙
     ap (λ (a : Answer Operand). next a (λ o rest. Ok (record { kind = c.kind; name = c.name; description = c.description; expression_place = o.place; expression = o.expression }, rest))) done.equal ∙
     ap (λ (s : Place). Ok (record { kind = c.kind; name = c.name; description = c.description; expression_place = s; expression = c.expression }, rest)) (sym w.8)
 
@@ -336,7 +328,7 @@ class-complete (Model m) us w q rest =
     ap (λ (b : Bool). class_named b m.first ((w.0 ++ w.1) ++ (sign mark.Semicolon q ∷ rest))) w.3 ∙
     ap (λ (v : Tokens). model_type m.first v) (append_assoc w.0 w.1 (sign mark.Semicolon q ∷ rest)) ∙
     ap (λ (a : Answer (List (List ℕ))). next a (λ ns us. next (or_else (chosen dotted_of us) (Ok (None, us))) (λ i rest. Ok (Model (record { first = m.first; others = ns; implementation = i }), rest))))
-      (each-finds IsStep step_of (λ ts. Unit {0}) (λ ys us w rest u. tt) (λ x us l rest u. step-complete x us l rest) step-some [] m.others w.0 (each-step m.others w.0 w.4) (w.1 ++ (sign mark.Semicolon q ∷ rest)) tt (no-step m.implementation w.1 w.5 q rest)) ∙
+    (each-finds IsStep step_of (λ ts. Unit {0}) (λ ys us w rest u. tt) (λ x us l rest u. step-complete x us l rest) step-some [] m.others w.0 (each-step m.others w.0 w.4) (w.1 ++ (sign mark.Semicolon q ∷ rest)) tt (no-step m.implementation w.1 w.5 q rest)) ∙
     ap (λ (a : Answer (Option (List ℕ))). next a (λ i rest. Ok (Model (record { first = m.first; others = m.others; implementation = i }), rest))) (implementation-complete m.implementation w.1 w.5 q rest)
 
 variable-complete : (x : Variable) (us : Tokens) → SpellsVariable x us → (rest : Tokens) → chosen variable_of (us ++ rest) ≡ Some (Ok (x, rest))
@@ -376,7 +368,7 @@ compute-complete (Some c) us w =
     ap (λ (v : Tokens). compute (v ++ [])) w.3 ∙ ap (λ (v : Tokens). compute (keyword word.Compute w.0 ∷ v)) (append_assoc w.1 w.2 []) ∙
     ap (λ (a : Answer (List Clause)). next a (λ cs us. next (each handler_of [] us) (λ hs rest. Ok (Some (record { clauses = cs; handlers = hs }), rest)))) (clauses-find c.clauses w.1 w.4 (w.2 ++ []) (from-later 1 4 (omega arith) (w.2 ++ []) (handlers-from c.handlers w.2 w.5 [] tt))) ∙
     ap (λ (a : Answer (List Handler)). next a (λ hs rest. Ok (Some (record { clauses = c.clauses; handlers = hs }), rest)))
-      (each-finds SpellsHandler handler_of (From 4) handlers-from handler-complete handler-some [] c.handlers w.2 w.5 [] tt refl)
+    (each-finds SpellsHandler handler_of (From 4) handlers-from handler-complete handler-some [] c.handlers w.2 w.5 [] tt refl)
 
 from-compute : (c : Option Compute) (us : Tokens) → SpellsCompute c us → From 3 (us ++ [])
 from-compute None us w = subst (λ (v : Tokens). From 3 (v ++ [])) (sym w) tt
@@ -400,9 +392,9 @@ contract-complete c ts w =
     let first_from = from-section SpellsClause 1 word.Integration (omega arith) c.integration w.1 w.6 (w.2 ++ (w.3 ++ [])) (from-later 1 2 (omega arith) (w.2 ++ (w.3 ++ [])) second) in
     ap (λ (v : Tokens). contract v) (w.4 ∙ four w.0 w.1 w.2 w.3) ∙
     ap (λ (a : Answer (List Variable)). next a (λ ss us. next (section (is_word word.Integration) clause_of us) (λ is vs. next (section is_initialize clause_of vs) (λ ns ws. next (compute ws) (λ c rest. Ok (record { state = ss; integration = is; initialize = ns; compute = c }, rest))))))
-      (section-complete SpellsVariable variable_of variable-complete variable-some (is_word word.State) word.State refl c.state w.0 w.5 (w.1 ++ (w.2 ++ (w.3 ++ []))) (no-variable (w.1 ++ (w.2 ++ (w.3 ++ []))) first_from) (no-section (is_word word.State) variable_of 1 no-state (w.1 ++ (w.2 ++ (w.3 ++ []))) first_from)) ∙
+    (section-complete SpellsVariable variable_of variable-complete variable-some (is_word word.State) word.State refl c.state w.0 w.5 (w.1 ++ (w.2 ++ (w.3 ++ []))) (no-variable (w.1 ++ (w.2 ++ (w.3 ++ []))) first_from) (no-section (is_word word.State) variable_of 1 no-state (w.1 ++ (w.2 ++ (w.3 ++ []))) first_from)) ∙
     ap (λ (a : Answer (List Clause)). next a (λ is vs. next (section is_initialize clause_of vs) (λ ns ws. next (compute ws) (λ d rest. Ok (record { state = c.state; integration = is; initialize = ns; compute = d }, rest)))))
-      (section-complete SpellsClause clause_of clause-complete clause-some (is_word word.Integration) word.Integration refl c.integration w.1 w.6 (w.2 ++ (w.3 ++ [])) (no-clause (w.2 ++ (w.3 ++ [])) (from-later 1 2 (omega arith) (w.2 ++ (w.3 ++ [])) second)) (no-section (is_word word.Integration) clause_of 2 no-integration (w.2 ++ (w.3 ++ [])) second)) ∙
+    (section-complete SpellsClause clause_of clause-complete clause-some (is_word word.Integration) word.Integration refl c.integration w.1 w.6 (w.2 ++ (w.3 ++ [])) (no-clause (w.2 ++ (w.3 ++ [])) (from-later 1 2 (omega arith) (w.2 ++ (w.3 ++ [])) second)) (no-section (is_word word.Integration) clause_of 2 no-integration (w.2 ++ (w.3 ++ [])) second)) ∙
     ap (λ (a : Answer (List Clause)). next a (λ ns ws. next (compute ws) (λ d rest. Ok (record { state = c.state; integration = c.integration; initialize = ns; compute = d }, rest))))
-      (initialize-complete c.initialize w.2 w.7 (w.3 ++ []) third) ∙
+    (initialize-complete c.initialize w.2 w.7 (w.3 ++ []) third) ∙
     ap (λ (a : Answer (Option Compute)). next a (λ d rest. Ok (record { state = c.state; integration = c.integration; initialize = c.initialize; compute = d }, rest))) (compute-complete c.compute w.3 w.8)

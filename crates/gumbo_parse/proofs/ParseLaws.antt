@@ -1,5 +1,5 @@
 -- What the reader of contracts tells of a text.
-use Rattle.std.proofs.Common.{◌≡◌, ℕ, suc, ◌+◌, ◌-◌, ◌≤◌, List, [], ◌∷◌, ◌++◌, length, drop, Ok, Err, sym, ap, ◌∙◌, subst, refl, length-append, zero-add, arith}
+use Rattle.std.proofs.Common.{◌≡◌, ℕ, ◌+◌, ◌-◌, ◌≤◌, List, [], ◌∷◌, ◌++◌, length, drop, Ok, Err, sym, ap, ◌∙◌, subst, refl, length-append, arith}
 use Rattle.std.proofs.lemmas.List.{append-nil}
 use Rattle.hw_text.specs.declared.place.Place.{Place}
 use Rattle.hw_text.specs.declared.placed.Placed.{Placed}
@@ -66,9 +66,16 @@ stuck-stops us (t ∷ ts) left same = λ c more s.
 early : (at end : Place) (bytes left : List ℕ) (ts : Tokens) (a : Answer Contract) → Gives 0 SpellsContract (λ j. contract) ts a → (rest : Tokens) (c : Contract) (place : Place) → Lexes token_at skipped at bytes ts end left → a ≡ Ok (c, rest) → (left ≡ [] → rest ≡ [] → ⊥) → place ≡ place_before rest end → StopsAt at bytes place
 early at end bytes left ts (Ok w) f rest c place lexes e some is =
     let two : w.1 ≡ rest = cc in
-    let some_there : left ≡ [] → w.1 ≡ [] → ⊥ = λ none empty. some none (sym two ∙ empty) in
-    (f.us, w.1, end, left, subst (λ (v : Tokens). Lexes token_at skipped at bytes v end left) f.split lexes, (w.0, [], subst (λ (v : Tokens). SpellsContract w.0 v) (sym (append-nil f.us)) f.spelled),
-    found-stops f.us w.1 left w.0 some_there f.same, is ∙ ap (λ (v : Tokens). place_before v end) (sym two))
+    let some_there : left ≡ [] → w.1 ≡ [] → ⊥ = λ none empty. some none (sym two ∙ empty) in (
+      f.us,
+      w.1,
+      end,
+      left,
+      subst (λ (v : Tokens). Lexes token_at skipped at bytes v end left) f.split lexes,
+      (w.0, [], subst (λ (v : Tokens). SpellsContract w.0 v) (sym (append-nil f.us)) f.spelled),
+      found-stops f.us w.1 left w.0 some_there f.same,
+      is ∙ ap (λ (v : Tokens). place_before v end) (sym two),
+    )
 early at end bytes left ts (Err l) f rest c place lexes e some is = cc
 
 pub ended-early : (at end : Place) (bytes left : List ℕ) (ts rest : Tokens) (c : Contract) (place : Place) → Lexes token_at skipped at bytes ts end left → contract ts ≡ Ok (c, rest) → (left ≡ [] → rest ≡ [] → ⊥) → place ≡ place_before rest end → StopsAt at bytes place

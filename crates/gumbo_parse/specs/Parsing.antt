@@ -1,5 +1,5 @@
 -- What it means that a text is a contract, and where one stops being one (this project's own; docs/formats/contracts.md).
-use Rattle.std.specs.Prelude.{◌≡◌, ℕ, List, [], ◌∷◌, ◌++◌, Result, Ok, Err}
+use Rattle.std.specs.Prelude.{◌≡◌, ℕ, List, [], ◌∷◌, ◌++◌}
 use Rattle.hw_text.specs.declared.place.Place.{Place}
 use Rattle.hw_text.specs.declared.fault.Fault.{Fault}
 use Rattle.hw_text.specs.declared.fault.Fault.TheVariants as fault
