@@ -1,15 +1,11 @@
 -- The reader of contracts reads contracts.
-use Rattle.std.proofs.Common.{◌≡◌, ℕ, suc, ◌+◌, ◌≤◌, ◌<◌, Bool, true, false, List, [], ◌∷◌, ◌++◌, length, Option, Some, None, Ok, ◌⊎◌, inl, inr, sym, ap, ◌∙◌, subst, refl, append_assoc, arith}
-use Rattle.std.specs.Prelude.{if◌then◌else◌}
+use Rattle.std.proofs.Common.{◌≡◌, ℕ, ◌<◌, Bool, true, false, List, [], ◌∷◌, ◌++◌, length, Some, None, Ok, ◌⊎◌, inl, inr, sym, ap, ◌∙◌, subst, refl, append_assoc, arith}
 use Rattle.std.proofs.lemmas.List.{append-nil}
-use Rattle.hw_text.specs.declared.place.Place.{Place}
 use Rattle.hw_text.specs.declared.placed.Placed.{Placed}
 use Rattle.gumbo_parse.specs.declared.token.Token.{Token}
 use Rattle.gumbo_parse.specs.declared.token.Token.TheVariants as token
-use Rattle.gumbo_parse.specs.declared.word.Word.{Word}
 use Rattle.gumbo_parse.specs.declared.word.Word.TheVariants as word
 use Rattle.gumbo_parse.specs.declared.mark.Mark.TheVariants as mark
-use Rattle.gumbo_parse.specs.declared.expression.Named.{Named}
 use Rattle.gumbo_parse.specs.declared.expression.Expression.TheVariants.{Truth}
 use Rattle.gumbo_parse.specs.declared.class.BaseType.TheVariants.{Boolean}
 use Rattle.gumbo_parse.specs.declared.class.Class.TheVariants.{Base}
@@ -17,20 +13,18 @@ use Rattle.gumbo_parse.specs.declared.class.Variable.{Variable}
 use Rattle.gumbo_parse.specs.declared.contract.ClauseKind.TheVariants.{Assume}
 use Rattle.gumbo_parse.specs.declared.contract.Clause.{Clause}
 use Rattle.gumbo_parse.specs.declared.contract.Handler.{Handler}
-use Rattle.gumbo_parse.specs.declared.contract.Compute.{Compute}
-use Rattle.gumbo_parse.specs.declared.contract.Contract.{Contract}
 use Rattle.gumbo_parse.specs.Annex.{SpellsEach, SpellsClause, SpellsSection, SpellsHandler, SpellsCompute, SpellsContract}
 use Rattle.gumbo_parse.specs.Classes.{base_name, name_at, SpellsVariable}
 use Rattle.std.specs.Prelude.{codes}
-use Rattle.gumbo_parse.specs.Grammar.{truth, sign, keyword, name_token, start_of}
-use Rattle.gumbo_parse.specs.Reading.{Tokens, Answer, stuck, next, chosen, or_else, take_one, is_word, sign_of, name_of}
-use Rattle.gumbo_parse.specs.AnnexReader.{Choice, each, clause_of, handler, handler_of, some, section_of, section, is_initialize, computed, compute_of, compute, contract, variable_of}
+use Rattle.gumbo_parse.specs.Grammar.{truth, sign, keyword, name_token}
+use Rattle.gumbo_parse.specs.Reading.{Tokens, stuck, next, chosen, or_else, take_one, is_word, sign_of, name_of}
+use Rattle.gumbo_parse.specs.AnnexReader.{each, clause_of, handler, handler_of, some, section_of, section, is_initialize, computed, compute_of, compute, contract, variable_of}
 use Rattle.gumbo_parse.proofs.TokenTests.{is_word-true, sign-is, sign-same, name-is}
 use Rattle.gumbo_parse.proofs.ExpressionParts.{here, someone}
 use Rattle.gumbo_parse.proofs.ManyReads.{IsEach, each-good, shorter}
 use Rattle.gumbo_parse.proofs.ClassReads.{variables-choose}
 use Rattle.gumbo_parse.proofs.ClauseReads.{clauses-choose, first-good, IsSome, some-good, spells-section, section-good}
-use Rattle.gumbo_parse.proofs.ReadingLaws.{Good, Branch, Chooses, good-done, good-stuck, good-next, good-or_else, good-take, good-larger}
+use Rattle.gumbo_parse.proofs.ReadingLaws.{Good, Chooses, good-done, good-next, good-or_else, good-take, good-larger}
 
 -- an example of a clause and of a variable
 a-clause : Clause

@@ -1,5 +1,5 @@
 -- The reader of a clause's expression takes what stands before the next semicolon.
-use Rattle.std.proofs.Common.{◌≡◌, ℕ, zero, suc, ◌+◌, ◌≤◌, Bool, true, false, List, [], ◌∷◌, ◌++◌, length, take, drop, Option, Some, None, Ok, Err, sym, ap, ◌∙◌, subst, refl, append_assoc, length-append, length-take, zero-add, arith}
+use Rattle.std.proofs.Common.{◌≡◌, ℕ, suc, ◌+◌, ◌≤◌, Bool, true, false, [], ◌∷◌, ◌++◌, length, take, drop, Option, Some, None, Ok, Err, sym, ap, ◌∙◌, subst, refl, append_assoc, length-append, length-take, zero-add, arith}
 use Rattle.std.specs.Prelude.{if◌then◌else◌}
 use Rattle.std.proofs.lemmas.List.{append-nil}
 use Rattle.hw_text.specs.declared.place.Place.{Place}
@@ -8,12 +8,12 @@ use Rattle.gumbo_parse.specs.declared.token.Token.{Token}
 use Rattle.gumbo_parse.specs.declared.mark.Mark.TheVariants as mark
 use Rattle.gumbo_parse.specs.declared.operand.Operand.{Operand}
 use Rattle.gumbo_parse.specs.Grammar.{sign}
-use Rattle.gumbo_parse.specs.Reading.{Tokens, Answer, next, take_one, taken, is_mark, place_if, sign_of}
+use Rattle.gumbo_parse.specs.Reading.{Tokens, Answer, next, taken, is_mark, place_if}
 use Rattle.gumbo_parse.specs.Reader.{readers}
 use Rattle.gumbo_parse.specs.AnnexReader.{span, finished, ended, body}
-use Rattle.gumbo_parse.proofs.TokenTests.{is_mark-true, sign-same, sign-is}
+use Rattle.gumbo_parse.proofs.TokenTests.{sign-is}
 use Rattle.gumbo_parse.proofs.ReadingLaws.{first, Gives, IsFound, IsStuck, Good}
-use Rattle.gumbo_parse.proofs.ExpressionParts.{IsOperand, AllGood, here}
+use Rattle.gumbo_parse.proofs.ExpressionParts.{IsOperand, here}
 use Rattle.gumbo_parse.proofs.ExpressionReads.{all-good}
 use Rattle.gumbo_parse.proofs.ManyReads.{stuck-length}
 

@@ -1,5 +1,5 @@
 -- The readers of state variables read state variables.
-use Rattle.std.proofs.Common.{◌≡◌, ℕ, suc, ◌+◌, ◌≤◌, ◌<◌, Bool, true, false, List, [], ◌∷◌, ◌++◌, length, Option, Some, None, Ok, ◌⊎◌, inl, inr, sym, ap, ◌∙◌, subst, refl, append_assoc, arith}
+use Rattle.std.proofs.Common.{◌≡◌, ℕ, ◌<◌, Bool, true, false, List, [], ◌∷◌, ◌++◌, length, Option, Some, None, Ok, inl, inr, sym, ap, ◌∙◌, subst, refl, arith}
 use Rattle.std.specs.Prelude.{codes, if◌then◌else◌}
 use Rattle.std.specs.Str.{bytes_eq}
 use Rattle.std.proofs.lemmas.List.{append-nil}
@@ -12,18 +12,17 @@ use Rattle.gumbo_parse.specs.declared.mark.Mark.TheVariants as mark
 use Rattle.gumbo_parse.specs.declared.expression.Named.{Named}
 use Rattle.gumbo_parse.specs.declared.class.BaseType.{BaseType}
 use Rattle.gumbo_parse.specs.declared.class.BaseType.TheVariants.{Boolean}
-use Rattle.gumbo_parse.specs.declared.class.Class.{Class}
 use Rattle.gumbo_parse.specs.declared.class.Class.TheVariants.{Base, Model}
 use Rattle.gumbo_parse.specs.declared.class.Variable.{Variable}
 use Rattle.gumbo_parse.specs.Annex.{SpellsEach}
 use Rattle.gumbo_parse.specs.Classes.{base_name, name_at, SpellsPath, SpellsImplementation, SpellsClass, SpellsVariable}
 use Rattle.gumbo_parse.specs.Grammar.{sign, name_token}
-use Rattle.gumbo_parse.specs.Reading.{Tokens, Answer, stuck, next, chosen, or_else, take_one, is_mark, sign_of, name_of}
-use Rattle.gumbo_parse.specs.AnnexReader.{Choice, each, name_behind, step_of, dotted_of, all_bases, base_among, base_named, base_of, base_type, model_type, class_named, class, typed, variable_at, variable_of}
+use Rattle.gumbo_parse.specs.Reading.{Tokens, next, chosen, or_else, take_one, is_mark, sign_of, name_of}
+use Rattle.gumbo_parse.specs.AnnexReader.{each, name_behind, step_of, dotted_of, all_bases, base_among, base_named, base_of, base_type, model_type, class_named, class, typed, variable_of}
 use Rattle.gumbo_parse.proofs.TokenTests.{sign-is, sign-same, name-is}
 use Rattle.gumbo_parse.proofs.ExpressionParts.{here, someone}
 use Rattle.gumbo_parse.proofs.ManyReads.{IsEach, each-good, shorter}
-use Rattle.gumbo_parse.proofs.ReadingLaws.{Good, Branch, Chooses, good-done, good-stuck, good-next, good-or_else, good-take, good-larger}
+use Rattle.gumbo_parse.proofs.ReadingLaws.{Good, Chooses, good-done, good-next, good-or_else, good-take, good-larger}
 
 abbrev IsBehind : List ℕ → Tokens → Type 0
 IsBehind n us = (q : Place) × (us ≡ name_at n q ∷ [])
@@ -32,7 +31,7 @@ behind-good : (k : ℕ) → Good 0 IsBehind (λ j. name_behind) k
 behind-good k = good-take IsBehind name_of (λ x j rest. Ok (x.name, rest)) k someone (name_token someone) refl (λ x u named.
     good-done 0 (λ y vs. IsBehind y (u ∷ vs)) x.name k (x.place, ap (λ (v : Placed Token). v ∷ []) (name-is u x named)))
 
-abbrev IsStep : List ℕ → Tokens → Type 0
+abbrev pub IsStep : List ℕ → Tokens → Type 0
 IsStep n us = (p q : Place) × (us ≡ sign mark.DoubleColon p ∷ name_at n q ∷ [])
 
 step-larger : (t : Placed Token) → t ≡ sign mark.DoubleColon t.place → (n : List ℕ) (us : Tokens) → IsBehind n us → IsStep n (t ∷ us)

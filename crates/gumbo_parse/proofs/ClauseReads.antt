@@ -1,6 +1,5 @@
 -- The readers of clauses, sections and contracts read them.
-use Rattle.std.proofs.Common.{◌≡◌, ℕ, suc, ◌+◌, ◌≤◌, ◌<◌, Bool, true, false, List, [], ◌∷◌, ◌++◌, length, Option, Some, None, Ok, ◌⊎◌, inl, inr, sym, ap, ◌∙◌, subst, refl, append_assoc, arith}
-use Rattle.std.specs.Prelude.{if◌then◌else◌}
+use Rattle.std.proofs.Common.{◌≡◌, ℕ, ◌<◌, Bool, true, false, List, [], ◌∷◌, ◌++◌, length, Option, Some, None, Ok, inl, inr, sym, ap, ◌∙◌, subst, refl, append_assoc, arith}
 use Rattle.std.proofs.lemmas.List.{append-nil}
 use Rattle.hw_text.specs.declared.place.Place.{Place}
 use Rattle.hw_text.specs.declared.placed.Placed.{Placed}
@@ -10,27 +9,20 @@ use Rattle.gumbo_parse.specs.declared.word.Word.{Word}
 use Rattle.gumbo_parse.specs.declared.word.Word.TheVariants as word
 use Rattle.gumbo_parse.specs.declared.mark.Mark.TheVariants as mark
 use Rattle.gumbo_parse.specs.declared.expression.Named.{Named}
-use Rattle.gumbo_parse.specs.declared.expression.Expression.{Expression}
 use Rattle.gumbo_parse.specs.declared.operand.Operand.{Operand}
-use Rattle.gumbo_parse.specs.declared.class.Variable.{Variable}
 use Rattle.gumbo_parse.specs.declared.contract.ClauseKind.{ClauseKind}
 use Rattle.gumbo_parse.specs.declared.contract.ClauseKind.TheVariants.{Assume, Guarantee}
 use Rattle.gumbo_parse.specs.declared.contract.Clause.{Clause}
-use Rattle.gumbo_parse.specs.declared.contract.Handler.{Handler}
-use Rattle.gumbo_parse.specs.declared.contract.Compute.{Compute}
-use Rattle.gumbo_parse.specs.declared.contract.Contract.{Contract}
-use Rattle.gumbo_parse.specs.Annex.{clause_word, SpellsEach, SpellsDescription, SpellsClause, SpellsSection, SpellsHandler, SpellsCompute, SpellsContract}
-use Rattle.gumbo_parse.specs.Classes.{SpellsVariable}
-use Rattle.gumbo_parse.specs.Grammar.{sign, keyword, name_token, start_of}
-use Rattle.gumbo_parse.specs.Reading.{Tokens, Answer, stuck, next, chosen, or_else, take_one, is_mark, is_word, sign_of, name_of}
-use Rattle.gumbo_parse.specs.AnnexReader.{Choice, each, body, described, described_of, clause, kind_of, clause_if, clause_of, handler, handler_of, some, section_of, section, is_initialize, computed, compute_of, compute, contract, variable_of}
+use Rattle.gumbo_parse.specs.Annex.{clause_word, SpellsEach, SpellsDescription, SpellsClause, SpellsSection}
+use Rattle.gumbo_parse.specs.Grammar.{sign, keyword, name_token}
+use Rattle.gumbo_parse.specs.Reading.{Tokens, stuck, next, chosen, or_else, take_one, sign_of, name_of}
+use Rattle.gumbo_parse.specs.AnnexReader.{Choice, each, body, described, described_of, clause, clause_of, some, section_of, section}
 use Rattle.gumbo_parse.proofs.Levels.{weaken}
-use Rattle.gumbo_parse.proofs.TokenTests.{is_word-true, sign-is, sign-same, name-is}
+use Rattle.gumbo_parse.proofs.TokenTests.{sign-is, sign-same, name-is}
 use Rattle.gumbo_parse.proofs.ExpressionParts.{here, someone}
 use Rattle.gumbo_parse.proofs.ManyReads.{IsEach, each-good, shorter}
-use Rattle.gumbo_parse.proofs.ClassReads.{variables-choose}
 use Rattle.gumbo_parse.proofs.BodyReads.{IsBody, body-good}
-use Rattle.gumbo_parse.proofs.ReadingLaws.{Good, Branch, Chooses, good-done, good-stuck, good-next, good-or_else, good-take, good-larger}
+use Rattle.gumbo_parse.proofs.ReadingLaws.{Good, Chooses, good-done, good-stuck, good-next, good-or_else, good-take, good-larger}
 
 described-chooses : (k : ℕ) (t : Token) (at : Place) → let placed : Placed Token = record { token = t; place = at } in Chooses 0 SpellsDescription (λ j. described_of) k placed
 described-chooses k (token.Text d) at = inr (record { reader = λ j rest. Ok (Some d, rest); is = λ j. refl; good = good-done 0 (λ y vs. SpellsDescription y (record { token = token.Text d; place = at } ∷ vs)) (Some d) k (at, refl) })

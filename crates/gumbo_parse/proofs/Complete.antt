@@ -1,5 +1,5 @@
 -- The reader of expressions finds each expression that is there.
-use Rattle.std.proofs.Common.{◌≡◌, ℕ, zero, suc, ◌+◌, ◌≤◌, ◌<◌, Bool, true, false, List, [], ◌∷◌, ◌++◌, length, Option, Some, None, Ok, Err, ◌⊎◌, inl, inr, ◌-◌, sym, ap, ◌∙◌, subst, refl, append_assoc, length-append, arith}
+use Rattle.std.proofs.Common.{◌≡◌, ℕ, zero, suc, ◌+◌, ◌≤◌, ◌<◌, Bool, true, false, List, [], ◌∷◌, ◌++◌, length, Option, Some, None, Ok, ◌⊎◌, inl, inr, ◌-◌, sym, ap, ◌∙◌, subst, refl, append_assoc, length-append, arith}
 use Rattle.std.proofs.lemmas.List.{append-nil}
 use Rattle.hw_text.specs.declared.place.Place.{Place}
 use Rattle.hw_text.specs.declared.placed.Placed.{Placed}
@@ -23,8 +23,8 @@ use Rattle.gumbo_parse.specs.declared.expression.Expression.TheVariants.{Number,
 use Rattle.gumbo_parse.specs.declared.operand.Operand.{Operand}
 use Rattle.gumbo_parse.specs.Grammar.{Spells, number, truth, value, before, test, must_send, parenthesised, quantified, unary, binary, SpellsTail, nothing, field, index, SpellsBound, sign, keyword, name_token, number_token, truth_word, start_of, in_parentheses}
 use Rattle.gumbo_parse.specs.Operators.{unary_level, binary_level, left_level, right_level, unary_of, binary_of, test_word, quantifier_word}
-use Rattle.gumbo_parse.specs.Reading.{Tokens, Answer, stuck, next, chosen, or_else, take_one, is_mark, sign_of, name_of}
-use Rattle.gumbo_parse.specs.Reader.{Readers, readers, operand, primary, closed, bound, part_of, quantifier_of, quantified_if, quantified_of, if_tight, prefixed_if, infix_of, joined_if, quantified as quantified_reader, bracketed}
+use Rattle.gumbo_parse.specs.Reading.{Tokens, Answer, next, chosen, or_else, take_one, is_mark, sign_of}
+use Rattle.gumbo_parse.specs.Reader.{Readers, readers, primary, closed, bound, part_of, quantifier_of, quantified_if, quantified_of, if_tight, prefixed_if, joined_if, quantified as quantified_reader, bracketed}
 use Rattle.gumbo_parse.proofs.Levels.{own-left, own-right, some-left, tighter-right, left-bound, right-bound, unary-bound, not-unary, prefix-tight, infix-binds, infix-loose}
 use Rattle.gumbo_parse.proofs.TokenTests.{is_mark-true}
 use Rattle.gumbo_parse.proofs.ExpressionForms.{quantifier-is}

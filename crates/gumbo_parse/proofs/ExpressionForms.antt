@@ -1,6 +1,5 @@
 -- The readers of operands without operators read what the grammar has there, if those that they call do.
-use Rattle.std.proofs.Common.{◌≡◌, ℕ, zero, suc, ◌+◌, ◌≤◌, Bool, true, false, List, [], ◌∷◌, ◌++◌, length, Option, Some, None, Ok, ◌⊎◌, inl, inr, sym, ap, ◌∙◌, subst, refl, append_assoc, length-append, arith}
-use Rattle.std.specs.Prelude.{codes, if◌then◌else◌}
+use Rattle.std.proofs.Common.{◌≡◌, ℕ, ◌≤◌, Bool, true, false, List, [], ◌∷◌, ◌++◌, length, Option, Some, None, Ok, inl, inr, sym, ap, ◌∙◌, subst, refl, append_assoc, arith}
 use Rattle.std.proofs.lemmas.List.{append-nil}
 use Rattle.hw_text.specs.declared.place.Place.{Place}
 use Rattle.hw_text.specs.declared.placed.Placed.{Placed}
@@ -15,18 +14,17 @@ use Rattle.gumbo_parse.specs.declared.operator.Quantifier.TheVariants as quantif
 use Rattle.gumbo_parse.specs.declared.expression.Named.{Named}
 use Rattle.gumbo_parse.specs.declared.expression.Bound.{Bound}
 use Rattle.gumbo_parse.specs.declared.expression.Selector.{Selector}
-use Rattle.gumbo_parse.specs.declared.expression.Selector.TheVariants.{Field, Index}
 use Rattle.gumbo_parse.specs.declared.expression.Expression.{Expression}
 use Rattle.gumbo_parse.specs.declared.expression.Expression.TheVariants.{Number, Truth, Value, Before, Test, MustSend, Quantified}
 use Rattle.gumbo_parse.specs.declared.operand.Operand.{Operand}
-use Rattle.gumbo_parse.specs.Grammar.{Spells, number, truth, value, before, test, must_send, parenthesised, quantified, SpellsTail, nothing, field, index, SpellsBound, sign, keyword, name_token, number_token, start_of, in_parentheses}
+use Rattle.gumbo_parse.specs.Grammar.{Spells, number, truth, value, before, test, must_send, parenthesised, quantified, SpellsBound, sign, keyword, name_token, number_token, in_parentheses}
 use Rattle.gumbo_parse.specs.Operators.{test_word, quantifier_word}
-use Rattle.gumbo_parse.specs.Reading.{Tokens, Answer, stuck, next, chosen, or_else, take_one, is_mark, sign_of, keyword_of, name_of, number_of}
-use Rattle.gumbo_parse.specs.Reader.{Readers, readers, part_of, name_in_parentheses, closed, value as value_reader, before as before_reader, test_of, sent_of, must_send as must_send_reader, negative_of, bound, range, quantified as quantified_reader, quantifier_of, quantified_if, quantified_of, bracketed, primary_at, primary_of, primary}
-use Rattle.gumbo_parse.proofs.ExpressionParts.{IsOperand, IsTail, AllGood, here, someone, IsNamed, named-good, IsClosed, closed-good, tail-nothing}
+use Rattle.gumbo_parse.specs.Reading.{Tokens, stuck, next, chosen, or_else, take_one, is_mark, sign_of, keyword_of, name_of, number_of}
+use Rattle.gumbo_parse.specs.Reader.{readers, name_in_parentheses, closed, value as value_reader, before as before_reader, test_of, sent_of, must_send as must_send_reader, negative_of, bound, range, quantified as quantified_reader, quantifier_of, quantified_if, quantified_of, bracketed, primary_of, primary}
+use Rattle.gumbo_parse.proofs.ExpressionParts.{IsTail, AllGood, here, someone, IsNamed, named-good, IsClosed, closed-good}
 use Rattle.gumbo_parse.proofs.Levels.{weaken}
 use Rattle.gumbo_parse.proofs.TokenTests.{sign-is, sign-same, keyword-is, keyword-same, name-is, number-is}
-use Rattle.gumbo_parse.proofs.ReadingLaws.{Good, Branch, Chooses, Further, good-done, good-stuck, good-next, good-or_else, good-take, good-further, good-ending, good-larger, good-one}
+use Rattle.gumbo_parse.proofs.ReadingLaws.{Good, Chooses, good-done, good-stuck, good-next, good-or_else, good-take, good-larger}
 
 abbrev pub IsPrimary : Expression → Tokens → Type 0
 IsPrimary e us = Spells 8 e us × (1 ≤ length us)

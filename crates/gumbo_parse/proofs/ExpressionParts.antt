@@ -1,30 +1,21 @@
 -- The readers of the parts of an expression read what the grammar has there, if those that they call do.
-use Rattle.std.proofs.Common.{◌≡◌, ℕ, zero, suc, ◌+◌, ◌≤◌, Bool, true, false, List, [], ◌∷◌, ◌++◌, length, Option, Some, None, Ok, ◌⊎◌, inl, inr, sym, ap, ◌∙◌, subst, refl, append_assoc, length-append, arith}
-use Rattle.std.specs.Prelude.{codes, if◌then◌else◌}
+use Rattle.std.proofs.Common.{◌≡◌, ℕ, zero, suc, ◌≤◌, Bool, true, false, List, [], ◌∷◌, ◌++◌, length, Ok, inl, inr, sym, ap, ◌∙◌, refl, append_assoc, arith}
+use Rattle.std.specs.Prelude.{codes}
 use Rattle.std.proofs.lemmas.List.{append-nil}
 use Rattle.hw_text.specs.declared.place.Place.{Place}
 use Rattle.hw_text.specs.declared.placed.Placed.{Placed}
 use Rattle.gumbo_parse.specs.declared.token.Token.{Token}
-use Rattle.gumbo_parse.specs.declared.token.Token.TheVariants as token
-use Rattle.gumbo_parse.specs.declared.word.Word.TheVariants as word
 use Rattle.gumbo_parse.specs.declared.mark.Mark.TheVariants as mark
-use Rattle.gumbo_parse.specs.declared.operator.PortTest.{PortTest}
-use Rattle.gumbo_parse.specs.declared.operator.PortTest.TheVariants as test_variant
-use Rattle.gumbo_parse.specs.declared.operator.Quantifier.{Quantifier}
 use Rattle.gumbo_parse.specs.declared.expression.Named.{Named}
-use Rattle.gumbo_parse.specs.declared.expression.Bound.{Bound}
 use Rattle.gumbo_parse.specs.declared.expression.Selector.{Selector}
 use Rattle.gumbo_parse.specs.declared.expression.Selector.TheVariants.{Field, Index}
-use Rattle.gumbo_parse.specs.declared.expression.Expression.{Expression}
-use Rattle.gumbo_parse.specs.declared.expression.Expression.TheVariants.{Number, Truth, Value, Before, Test, MustSend, Quantified}
 use Rattle.gumbo_parse.specs.declared.operand.Operand.{Operand}
-use Rattle.gumbo_parse.specs.Grammar.{Spells, number, truth, value, before, test, must_send, parenthesised, quantified, SpellsTail, nothing, field, index, SpellsBound, sign, keyword, name_token, number_token, start_of, in_parentheses}
-use Rattle.gumbo_parse.specs.Operators.{test_word, quantifier_word}
-use Rattle.gumbo_parse.specs.Reading.{Tokens, Answer, stuck, next, chosen, or_else, take_one, is_mark, sign_of, keyword_of, name_of, number_of}
-use Rattle.gumbo_parse.specs.Reader.{Readers, readers, part_of, name_in_parentheses, closed, value as value_reader, before as before_reader, test_of, sent_of, must_send as must_send_reader}
+use Rattle.gumbo_parse.specs.Grammar.{Spells, SpellsTail, nothing, field, index, sign, name_token, start_of, in_parentheses}
+use Rattle.gumbo_parse.specs.Reading.{Tokens, next, take_one, is_mark, sign_of, name_of}
+use Rattle.gumbo_parse.specs.Reader.{readers, part_of, name_in_parentheses, closed}
 use Rattle.gumbo_parse.proofs.Levels.{weaken}
-use Rattle.gumbo_parse.proofs.TokenTests.{is_mark-true, sign-is, sign-same, name-is}
-use Rattle.gumbo_parse.proofs.ReadingLaws.{Good, Branch, Chooses, Further, good-done, good-stuck, good-next, good-or_else, good-take, good-further, good-ending, good-larger}
+use Rattle.gumbo_parse.proofs.TokenTests.{sign-is, sign-same, name-is}
+use Rattle.gumbo_parse.proofs.ReadingLaws.{Good, Chooses, Further, good-done, good-next, good-take, good-further, good-ending, good-larger}
 
 pub record IsOperand (n : ℕ) (o : Operand) (us : Tokens) : Type 0 where
   pub spelled : Spells o.level o.expression us

@@ -1,5 +1,5 @@
 -- The reader of expressions reads expressions.
-use Rattle.std.proofs.Common.{◌≡◌, ℕ, zero, suc, ◌+◌, ◌≤◌, true, List, [], ◌∷◌, ◌++◌, length, Option, Some, None, Ok, Err, ◌⊎◌, inl, inr, sym, ap, ◌∙◌, subst, refl, append_assoc, length-append, arith}
+use Rattle.std.proofs.Common.{◌≡◌, ℕ, zero, suc, ◌≤◌, true, [], ◌∷◌, ◌++◌, length, Option, Some, None, Ok, Err, inl, inr, sym, ap, ◌∙◌, subst, refl, append_assoc, length-append, arith}
 use Rattle.std.proofs.lemmas.List.{append-nil}
 use Rattle.hw_text.specs.declared.place.Place.{Place}
 use Rattle.hw_text.specs.declared.placed.Placed.{Placed}
@@ -10,13 +10,13 @@ use Rattle.gumbo_parse.specs.declared.operator.BinaryOperator.{BinaryOperator}
 use Rattle.gumbo_parse.specs.declared.expression.Expression.{Expression}
 use Rattle.gumbo_parse.specs.declared.expression.Expression.TheVariants.{Truth, Unary, Binary}
 use Rattle.gumbo_parse.specs.declared.operand.Operand.{Operand}
-use Rattle.gumbo_parse.specs.Grammar.{Spells, unary, binary, truth, keyword, start_of}
-use Rattle.gumbo_parse.specs.Operators.{unary_level, binary_level, left_level, right_level, unary_of, binary_of}
-use Rattle.gumbo_parse.specs.Reading.{Tokens, Answer, stuck, next, chosen, or_else}
-use Rattle.gumbo_parse.specs.Reader.{Readers, readers, primary, prefix_of, prefixed_if, prefixed_of, operand, infix_of, joined_if, joined_of}
+use Rattle.gumbo_parse.specs.Grammar.{unary, binary, truth, keyword, start_of}
+use Rattle.gumbo_parse.specs.Operators.{unary_level, binary_level, left_level, right_level, binary_of}
+use Rattle.gumbo_parse.specs.Reading.{Tokens, Answer, next}
+use Rattle.gumbo_parse.specs.Reader.{readers, primary, prefix_of, prefixed_if, prefixed_of, operand, infix_of, joined_if, joined_of}
 use Rattle.gumbo_parse.proofs.Levels.{weaken, unary-bound, right-bound, prefix-some, infix-some}
-use Rattle.gumbo_parse.proofs.ReadingLaws.{Gives, IsFound, IsStuck, Good, Chooses, Further, Deeper, good-done, good-next, good-or_else, good-further, good-ending, good-deeper, good-none, good-larger}
-use Rattle.gumbo_parse.proofs.ExpressionParts.{IsOperand, IsTail, GoesOn, AllGood, here, tail-good, tail-none}
+use Rattle.gumbo_parse.proofs.ReadingLaws.{Gives, Good, Chooses, Further, Deeper, good-done, good-next, good-or_else, good-further, good-ending, good-deeper, good-none, good-larger}
+use Rattle.gumbo_parse.proofs.ExpressionParts.{IsOperand, GoesOn, AllGood, here, tail-good, tail-none}
 use Rattle.gumbo_parse.proofs.ExpressionForms.{IsPrimary, primary-good}
 
 pub start-append : (us vs : Tokens) → 1 ≤ length us → start_of (us ++ vs) ≡ start_of us

@@ -1,9 +1,7 @@
 -- How tightly operators bind, and expressions with them.
-use Rattle.std.proofs.Common.{◌≡◌, ℕ, ◌+◌, ◌≤◌, ◌<◌, Bool, true, false, Option, Some, None, List, [], ◌∷◌, ◌++◌, length, nat_le, ◌&&◌, ◌⊎◌, inl, inr, sym, ap, ◌∙◌, refl, arith, rules}
+use Rattle.std.proofs.Common.{◌≡◌, ℕ, ◌≤◌, ◌<◌, Bool, true, false, Option, Some, None, nat_le, ◌&&◌, ◌⊎◌, inl, inr, ap, ◌∙◌, refl, arith}
 use Rattle.std.specs.Prelude.{if◌then◌else◌}
 use borrow.Author.Tests.{leb-true, le-leb, lt-leb}
-use Rattle.hw_text.specs.declared.place.Place.{Place}
-use Rattle.hw_text.specs.declared.placed.Placed.{Placed}
 use Rattle.gumbo_parse.specs.declared.token.Token.{Token}
 use Rattle.gumbo_parse.specs.declared.operator.UnaryOperator.{UnaryOperator}
 use Rattle.gumbo_parse.specs.declared.operator.UnaryOperator.TheVariants.{Not, Minus}

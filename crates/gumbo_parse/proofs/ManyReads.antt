@@ -1,12 +1,12 @@
 -- Reading all members that are there reads members of the language, if reading one does.
-use Rattle.std.proofs.Common.{◌≡◌, ℕ, zero, suc, ◌+◌, ◌≤◌, ◌<◌, List, [], ◌∷◌, ◌++◌, length, Option, Some, None, Ok, Err, ◌⊎◌, inl, inr, sym, ap, ◌∙◌, subst, refl, append_assoc, length-append, arith}
+use Rattle.std.proofs.Common.{◌≡◌, ℕ, zero, suc, ◌≤◌, ◌<◌, List, [], ◌∷◌, ◌++◌, length, Option, Some, None, Ok, Err, inl, inr, sym, ap, ◌∙◌, refl, append_assoc, length-append, arith}
 use Rattle.std.proofs.lemmas.List.{append-nil}
 use Rattle.hw_text.specs.declared.placed.Placed.{Placed}
 use Rattle.gumbo_parse.specs.declared.token.Token.{Token}
 use Rattle.gumbo_parse.specs.Annex.{SpellsEach}
-use Rattle.gumbo_parse.specs.Reading.{Tokens, Answer, stuck, next, chosen, or_else}
-use Rattle.gumbo_parse.specs.AnnexReader.{Choice, member_if, many, each, some}
-use Rattle.gumbo_parse.proofs.ReadingLaws.{Gives, IsFound, IsStuck, Good, Branch, Chooses, Further, good-next, good-further, good-ending, good-larger, good-or_else, good-stuck}
+use Rattle.gumbo_parse.specs.Reading.{Tokens, Answer, next, chosen}
+use Rattle.gumbo_parse.specs.AnnexReader.{Choice, member_if, many, each}
+use Rattle.gumbo_parse.proofs.ReadingLaws.{Gives, Good, Chooses, Further, good-next, good-further, good-ending, good-larger}
 
 -- one answer of a reader that is good for each bound
 pub found-length : {X : Type 0} (s : ℕ) (L : X → Tokens → Type 0) (p : ℕ → Tokens → Answer X) (ts : Tokens) (a : Answer X) (x : X) (rest : Tokens) → Gives s L p ts a → a ≡ Ok (x, rest) → length rest ≤ length ts

@@ -1,7 +1,6 @@
 -- What a reader gives, in terms of the language that it reads: it found a member of it, or stands at the end of a part that members go on
 -- from. In either case it does the same on each other text that has the same tokens up to there and the next.
-use Rattle.std.proofs.Common.{◌≡◌, ℕ, zero, suc, ◌+◌, ◌≤◌, List, [], ◌∷◌, ◌++◌, length, Option, Some, None, Ok, Err, ◌⊎◌, inl, inr, sym, ap, ◌∙◌, subst, refl, append_assoc, length-append, arith}
-use Rattle.hw_text.specs.declared.place.Place.{Place}
+use Rattle.std.proofs.Common.{◌≡◌, ℕ, zero, suc, ◌+◌, ◌≤◌, [], ◌∷◌, ◌++◌, length, Option, Some, None, Ok, Err, ◌⊎◌, inl, inr, sym, ap, ◌∙◌, subst, refl, append_assoc, length-append, arith}
 use Rattle.hw_text.specs.declared.placed.Placed.{Placed}
 use Rattle.gumbo_parse.specs.declared.token.Token.{Token}
 use Rattle.gumbo_parse.specs.Reading.{Tokens, Answer, stuck, next, chosen, or_else, taken, take_one}

@@ -1,6 +1,6 @@
 -- Readers of token lists. A reader gives what it read and the tokens behind it, or how many tokens are left where it stands at one with
 -- which what it reads cannot go on (this project's own).
-use Rattle.std.specs.Prelude.{ℕ, Bool, true, false, if◌then◌else◌, List, [], ◌∷◌, length, Option, Some, None, Result, Ok, Err}
+use Rattle.std.specs.Prelude.{ℕ, Bool, true, false, List, [], ◌∷◌, length, Option, Some, None, Result, Ok, Err}
 use denote.Enum.Bare.{sameb}
 use Rattle.hw_text.specs.declared.place.Place.{Place}
 use Rattle.hw_text.specs.declared.placed.Placed.{Placed}

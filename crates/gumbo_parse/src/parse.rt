@@ -1,7 +1,7 @@
 //! From the text of an annex to its contract.
 
 ghost use Rattle.std.specs.Prelude.{◌≡◌, ◌≤◌, [], length, drop, pos, ◌-◌, IfOk, IfErr};
-ghost use Rattle.gumbo_parse.specs.Parsing.{IsContract, IsReadTo, IfRefusedFor, place_before};
+ghost use Rattle.gumbo_parse.specs.Parsing.{IsContract, StopsAt, IfRefusedFor, place_before};
 
 use crate::annex_reader::contract;
 use crate::contract::Contract;
@@ -14,18 +14,21 @@ use std::alloc::Global;
 /// The contract of a text that begins at a place.
 pub fn parse_annex(alloc: Global, bytes: &[u8], at: Place) -> Result<Contract, Fault>
     ensures read { IfOk result (λ contract. IsContract at bytes.now contract) }
-    ensures refused { IfErr result (λ fault. IfRefusedFor fault (λ refusal. (refusal.code ≡ Code.ContractSyntax) × IsReadTo at bytes.now refusal.place)) }
+    ensures refused { IfErr result (λ fault. IfRefusedFor fault (λ refusal. (refusal.code ≡ Code.ContractSyntax) × StopsAt at bytes.now refusal.place)) }
 {
     let lexed = read_tokens(alloc, bytes, at)?;
     let tokens = lexed.tokens.rows();
     match contract(alloc, tokens) {
-        Ok((found, rest)) => {
-            if rest.len() == 0 && lexed.rest.len() == 0 {
-                Ok(found)
-            } else {
-                Err(Fault::Refused(syntax(alloc, place_before(rest, lexed.end))))
+        Ok((found, rest)) => match rest.split_first() {
+            Some((next, _)) => Err(Fault::Refused(syntax(alloc, next.place))),
+            None => {
+                if lexed.rest.len() == 0 {
+                    Ok(found)
+                } else {
+                    Err(Fault::Refused(syntax(alloc, lexed.end)))
+                }
             }
-        }
+        },
         Err(Stop::Stuck(left)) => {
             let (_, rest) = tokens.split_at(tokens.len() - left);
             Err(Fault::Refused(syntax(alloc, place_before(rest, lexed.end))))

@@ -1,4 +1,4 @@
-use Rattle.std.proofs.Common.{◌≡◌, zero, suc, ◌≤◌, arith, rules}
+use Rattle.std.proofs.Common.{◌≡◌, suc, arith, rules}
 use Rattle.gumbo_parse.specs.Reader.{readers}
 use Rattle.gumbo_parse.proofs.+reader.Goals as goal
 

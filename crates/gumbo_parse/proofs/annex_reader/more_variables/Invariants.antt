@@ -1,4 +1,4 @@
-use Rattle.std.proofs.Common.{◌≡◌, ◌≤◌, ℕ, [], length}
+use Rattle.std.proofs.Common.{◌≡◌, ◌≤◌, ℕ, length}
 use Rattle.gumbo_parse.specs.AnnexReader.{many, variable_of}
 use Rattle.gumbo_parse.proofs.annex_reader.more_variables.Given as goal
 

@@ -1,4 +1,4 @@
-use Rattle.std.proofs.Common.{[], arith, rules}
+use Rattle.std.proofs.Common.{[], rules}
 use Rattle.gumbo_parse.specs.AnnexReader.{step_of}
 use Rattle.gumbo_parse.proofs.ClassReads.{path-shorter}
 use Rattle.gumbo_parse.proofs.ManyLaws.{goes-on, ends-there, stops-there}

@@ -1,4 +1,4 @@
-use Rattle.std.proofs.Common.{◌≡◌, ◌≤◌, ℕ, [], length}
+use Rattle.std.proofs.Common.{◌≡◌, ◌≤◌, ℕ, length}
 use Rattle.gumbo_parse.specs.AnnexReader.{many, clause_of}
 use Rattle.gumbo_parse.proofs.clause_reader.more_clauses.Given as goal
 
