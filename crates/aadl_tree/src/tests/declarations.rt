@@ -44,12 +44,12 @@ end p;
 
 fn imports(alloc: Global) -> Result<Rows<Import>, Fail> {
     let base = Import {
-        first: qualified(alloc, "Base_Types", [])?,
+        first: qualified(alloc, "Base_Types", &[])?,
         others: Rows::new(alloc),
     };
     let two = Import {
-        first: qualified(alloc, "a", ["b"])?,
-        others: rows(alloc, [qualified(alloc, "c", [])?])?,
+        first: qualified(alloc, "a", &["b"])?,
+        others: rows(alloc, [qualified(alloc, "c", &[])?])?,
     };
     rows(alloc, [base, two])
 }
@@ -70,7 +70,7 @@ fn features(alloc: Global) -> Result<Rows<Feature>, Fail> {
     let both = Feature {
         name: named(alloc, "v")?,
         direction: Direction::In,
-        kind: PortKind::EventData(class(alloc, "t", [], "u")?),
+        kind: PortKind::EventData(class(alloc, "t", &[], "u")?),
         own: Some(rows(
             alloc,
             [
@@ -125,7 +125,7 @@ fn implementation(alloc: Global) -> Result<Implementation, Fail> {
     let part = Subcomponent {
         name: named(alloc, "c")?,
         category: Category::Process,
-        class: class(alloc, "t", [], "u")?,
+        class: class(alloc, "t", &[], "u")?,
         own: Some(Rows::new(alloc)),
     };
     Ok(Implementation {

@@ -23,9 +23,9 @@ pub fn name(alloc: Global, text: &str) -> Result<Name, Fail> {
     Ok(Name::read(alloc, text.as_bytes())?)
 }
 
-pub fn names<const N: usize>(alloc: Global, texts: [&str; N]) -> Result<Rows<Name>, Fail> {
+pub fn names(alloc: Global, texts: &[&str]) -> Result<Rows<Name>, Fail> {
     let mut list = Rows::new(alloc);
-    for text in &texts {
+    for &text in texts {
         list.push(name(alloc, text)?)?;
     }
     Ok(list)
@@ -38,18 +38,14 @@ pub fn named(alloc: Global, text: &str) -> Result<Named, Fail> {
     })
 }
 
-pub fn qualified<const N: usize>(
-    alloc: Global,
-    first: &str,
-    others: [&str; N],
-) -> Result<QualifiedName, Fail> {
+pub fn qualified(alloc: Global, first: &str, others: &[&str]) -> Result<QualifiedName, Fail> {
     Ok(QualifiedName {
         first: named(alloc, first)?,
         others: names(alloc, others)?,
     })
 }
 
-pub fn path<const N: usize>(alloc: Global, first: &str, others: [&str; N]) -> Result<Path, Fail> {
+pub fn path(alloc: Global, first: &str, others: &[&str]) -> Result<Path, Fail> {
     Ok(Path {
         first: named(alloc, first)?,
         others: names(alloc, others)?,
@@ -82,12 +78,7 @@ pub fn connection_end(
     })
 }
 
-pub fn class<const N: usize>(
-    alloc: Global,
-    first: &str,
-    others: [&str; N],
-    own: &str,
-) -> Result<Class, Fail> {
+pub fn class(alloc: Global, first: &str, others: &[&str], own: &str) -> Result<Class, Fail> {
     Ok(Class::Model(ModelClass {
         first: ClassName::of(name(alloc, first)?).ok_or("no name of a class")?,
         place: AT,
@@ -120,7 +111,7 @@ pub fn annex(alloc: Global, called: &str, text: Option<AnnexText>) -> Result<Ann
 /// The property set to one value.
 pub fn set(alloc: Global, property: &str, value: PropertyValue) -> Result<Association, Fail> {
     Ok(Association {
-        property: qualified(alloc, property, [])?,
+        property: qualified(alloc, property, &[])?,
         operator: Operator::Set,
         constant: false,
         first: value,
@@ -137,9 +128,9 @@ pub fn package(
     declarations: Rows<Declaration>,
 ) -> Result<Package, Fail> {
     Ok(Package {
-        name: qualified(alloc, called, [])?,
+        name: qualified(alloc, called, &[])?,
         imports,
         declarations,
-        end_name: qualified(alloc, called, [])?,
+        end_name: qualified(alloc, called, &[])?,
     })
 }

@@ -45,7 +45,7 @@ fn numbers(alloc: Global) -> Result<Association, Fail> {
         unit: Some(name(alloc, "sec")?),
     };
     Ok(Association {
-        property: qualified(alloc, "q", ["r"])?,
+        property: qualified(alloc, "q", &["r"])?,
         operator: Operator::Append,
         constant: true,
         first: PropertyValue::Quantity(least),
@@ -90,10 +90,10 @@ fn nested_record(alloc: Global) -> Result<Association, Fail> {
 }
 
 fn bound(alloc: Global) -> Result<Association, Fail> {
-    let reference = PropertyValue::Reference(path(alloc, "cpu", ["x"])?);
+    let reference = PropertyValue::Reference(path(alloc, "cpu", &["x"])?);
     let mut association = set(alloc, "bound", list(alloc, [reference])?)?;
-    association.applies_to.push(path(alloc, "a", [])?)?;
-    association.applies_to.push(path(alloc, "b", ["c"])?)?;
+    association.applies_to.push(path(alloc, "a", &[])?)?;
+    association.applies_to.push(path(alloc, "b", &["c"])?)?;
     Ok(association)
 }
 
@@ -110,7 +110,7 @@ fn texts(alloc: Global) -> Result<Association, Fail> {
 fn associations(alloc: Global) -> Result<Rows<Association>, Fail> {
     let truths = [PropertyValue::Truth(true), PropertyValue::Truth(false)];
     let [yes, no] = truths;
-    let own = class(alloc, "q", ["r", "t"], "i")?;
+    let own = class(alloc, "q", &["r", "t"], "i")?;
     rows(
         alloc,
         [
@@ -122,7 +122,7 @@ fn associations(alloc: Global) -> Result<Rows<Association>, Fail> {
             set(
                 alloc,
                 "named",
-                PropertyValue::Name(qualified(alloc, "on", ["off"])?),
+                PropertyValue::Name(qualified(alloc, "on", &["off"])?),
             )?,
             nested_list(alloc)?,
             set(alloc, "none_set", PropertyValue::Record(Rows::new(alloc)))?,
