@@ -47,6 +47,3 @@ pub use subcomponent::Subcomponent;
 pub use token::Token;
 pub use value::{Number, PropertyValue, Quantity, RecordField, Sign};
 pub use word::Word;
-
-#[cfg(test)]
-mod tests;
