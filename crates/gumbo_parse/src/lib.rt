@@ -37,8 +37,3 @@ pub use operator::{BinaryOperator, PortTest, Quantifier, UnaryOperator};
 pub use parse::parse_annex;
 pub use token::Token;
 pub use word::Word;
-
-#[cfg(test)]
-mod parse_tests;
-#[cfg(test)]
-mod tests;
