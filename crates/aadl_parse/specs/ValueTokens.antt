@@ -60,10 +60,12 @@ pub number-shaped : (t : Placed Token) (x : Number) → number_of t ≡ Some x �
 number-shaped t x e = number_at-shaped t.token x e
 
 abbrev pub text_shapes : List (List ℕ)
-text_shapes = codes "STRING" ∷ []
+text_shapes = codes "STRING" ∷ codes "SPOILT" ∷ []
 
+-- a spoilt text stands where a text may, so that its bad byte is what is wrong there; no model has one
 abbrev pub text_at : Token → Option PropertyValue
 text_at (token.Text t) = Some (value.Text t)
+text_at (token.SpoiltText n) = Some (value.Text [])
 text_at _ = None
 
 abbrev pub text_of : Placed Token → Option PropertyValue
@@ -71,6 +73,7 @@ text_of t = text_at t.token
 
 text_at-shaped : (t : Token) (x : PropertyValue) → text_at t ≡ Some x → list_any (bytes_eq (shape t)) text_shapes ≡ true
 text_at-shaped (token.Text t) x e = refl
+text_at-shaped (token.SpoiltText n) x e = refl
 text_at-shaped _ x e = absurd (never_some x e)
 
 pub text-shaped : (t : Placed Token) (x : PropertyValue) → text_of t ≡ Some x → one_of text_shapes t ≡ true

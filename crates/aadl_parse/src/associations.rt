@@ -1,56 +1,25 @@
 //! The productions of property associations.
 
-ghost use Rattle.std.specs.Prelude.{[], ◌∷◌, codes, refl, Some, is_some};
-ghost use Rattle.aadl_tree.specs.declared.token.Token.TheVariants as token;
-ghost use Rattle.aadl_tree.specs.declared.mark.Mark.TheVariants as mark;
-ghost use Rattle.aadl_tree.specs.declared.association.Operator.TheVariants.{Set};
-ghost use Rattle.aadl_parse.specs.Builds.{or_none};
-ghost use Rattle.aadl_parse.specs.Stops.{start};
-ghost use Rattle.aadl_parse.specs.Terminals.{operator_of, operator-shaped};
+ghost use Rattle.std.specs.Prelude.{refl, is_some};
+ghost use Rattle.aadl_parse.specs.Builds.{or_none, behind_mark, association_of};
+ghost use Rattle.aadl_parse.specs.Grammar.{SpellsAssociation};
 
-use crate::leaf::{Leaf, Terminal};
+use crate::leaf::Leaf;
 use crate::made::{Production, Text};
 use crate::names::QualifiedText;
+use crate::operator_mark::OperatorMark;
 use crate::part::{Behind, Beside, Closed, Part};
 use crate::paths::AppliesText;
 use crate::section_rows::or_none;
 use crate::sequence::{Before, Then};
-use crate::shape::{Sign, shape};
+use crate::shape::Sign;
 use crate::surround::{ManyThen, OptionalThen};
 use crate::symbol::points::{Comma, Semicolon};
 use crate::symbol::settings::Constant;
 use crate::value_text::ValueText;
-use aadl_tree::{Association, Mark, Operator, PropertyValue, Token};
-use hw_text::{Cursor, NoMemory, Placed, ReadFault};
+use aadl_tree::{Association, PropertyValue, Token};
+use hw_text::{Cursor, Placed, ReadFault};
 use std::alloc::Global;
-
-/// "=>" | "+=>"
-pub struct OperatorMark;
-
-impl Terminal for OperatorMark {
-    type Value = Operator;
-
-    ghost value = { operator_of };
-
-    ghost shapes = { codes "=>" ∷ codes "+=>" ∷ [] };
-
-    fn is_shaped(token: &Placed<Token>) -> bool {
-        let shape = shape(&token.token);
-        shape == "=>" || shape == "+=>"
-    }
-
-    fn value(_alloc: Global, token: &Placed<Token>) -> Result<Option<Self::Value>, NoMemory> {
-        match &token.token {
-            Token::Mark(Mark::Association) => Ok(Some(Operator::Set)),
-            Token::Mark(Mark::Addition) => Ok(Some(Operator::Append)),
-            _ => Ok(None),
-        }
-    }
-
-    ghost sample = { (record { token = token.Mark mark.Association; place = start }, Set, refl) };
-
-    ghost shaped = { operator-shaped };
-}
 
 /// "," value
 pub struct CommaValue;
@@ -60,7 +29,7 @@ impl Production for CommaValue {
 
     type Value = PropertyValue;
 
-    ghost build = { λ p. p.1 };
+    ghost build = { behind_mark };
 
     fn build(_alloc: Global, parts: <Self::Parts as Part>::Value) -> Self::Value {
         let ((), value) = parts;
@@ -124,14 +93,7 @@ impl Production for AssociationText {
 
     type Value = Association;
 
-    ghost build = { λ p. record {
-      property = p.0;
-      operator = p.1.0;
-      constant = is_some p.1.1.0;
-      first = p.1.1.1.0;
-      others = p.1.1.1.1.0;
-      applies_to = or_none p.1.1.1.1.1.0;
-    } };
+    ghost build = { association_of };
 
     fn build(alloc: Global, parts: <Self::Parts as Part>::Value) -> Self::Value {
         let (property, (operator, (constant, (first, (others, (paths, ())))))) = parts;
@@ -149,7 +111,7 @@ impl Production for AssociationText {
 impl Part for AssociationText {
     type Value = Association;
 
-    ghost spells = { ⟦<Text<AssociationText> as Part>⟧.spells };
+    ghost spells = { SpellsAssociation };
 
     ghost starts = { ⟦<Text<AssociationText> as Part>⟧.starts };
 

@@ -3,6 +3,7 @@
 ghost use Rattle.std.specs.Prelude.{refl};
 ghost use Rattle.aadl_tree.specs.declared.class.Class.TheVariants.{Base, Model};
 ghost use Rattle.aadl_parse.specs.Builds.{either_of};
+ghost use Rattle.aadl_parse.specs.SimpleValue.{base_class_of, model_class_of, SpellsClass};
 
 use crate::choice::{Either, either_of};
 use crate::leaf::Leaf;
@@ -26,7 +27,7 @@ impl Production for BaseText {
 
     type Value = Class;
 
-    ghost build = { λ p. Base p.0 p.1.1 };
+    ghost build = { base_class_of };
 
     fn build(_alloc: Global, parts: <Self::Parts as Part>::Value) -> Self::Value {
         let (place, ((), base)) = parts;
@@ -52,7 +53,7 @@ impl Production for ModelText {
 
     type Value = Class;
 
-    ghost build = { λ p. Model (record { first = p.0.0.0; place = p.0.0.1; others = p.0.1; implementation = p.1 }) };
+    ghost build = { model_class_of };
 
     fn build(_alloc: Global, parts: <Self::Parts as Part>::Value) -> Self::Value {
         let (((first, place), others), implementation) = parts;
@@ -87,7 +88,7 @@ impl Production for ClassText {
 impl Part for ClassText {
     type Value = Class;
 
-    ghost spells = { ⟦<Text<ClassText> as Part>⟧.spells };
+    ghost spells = { SpellsClass };
 
     ghost starts = { ⟦<Text<ClassText> as Part>⟧.starts };
 

@@ -1,6 +1,8 @@
 //! The productions of names that are made of several.
 
 ghost use Rattle.std.specs.Prelude.{refl};
+ghost use Rattle.aadl_parse.specs.SimpleValue.{name_behind, qualified_of, path_of};
+ghost use Rattle.aadl_parse.specs.Builds.{implementation_name_of};
 
 use crate::leaf::Leaf;
 use crate::made::{Production, Text};
@@ -22,7 +24,7 @@ impl Production for ColonName {
 
     type Value = Name;
 
-    ghost build = { λ p. p.1 };
+    ghost build = { name_behind };
 
     fn build(_alloc: Global, parts: <Self::Parts as Part>::Value) -> Self::Value {
         let ((), name) = parts;
@@ -50,7 +52,7 @@ impl Production for DotName {
 
     type Value = Name;
 
-    ghost build = { λ p. p.1 };
+    ghost build = { name_behind };
 
     fn build(_alloc: Global, parts: <Self::Parts as Part>::Value) -> Self::Value {
         let ((), name) = parts;
@@ -78,7 +80,7 @@ impl Production for QualifiedText {
 
     type Value = QualifiedName;
 
-    ghost build = { λ p. record { first = p.0; others = p.1 } };
+    ghost build = { qualified_of };
 
     fn build(_alloc: Global, parts: <Self::Parts as Part>::Value) -> Self::Value {
         let (first, others) = parts;
@@ -94,7 +96,7 @@ impl Production for PathText {
 
     type Value = Path;
 
-    ghost build = { λ p. record { first = p.0; others = p.1 } };
+    ghost build = { path_of };
 
     fn build(_alloc: Global, parts: <Self::Parts as Part>::Value) -> Self::Value {
         let (first, others) = parts;
@@ -110,7 +112,7 @@ impl Production for ImplementationNameText {
 
     type Value = ImplementationName;
 
-    ghost build = { λ p. record { component_type = p.0; name = p.1 } };
+    ghost build = { implementation_name_of };
 
     fn build(_alloc: Global, parts: <Self::Parts as Part>::Value) -> Self::Value {
         let (component_type, name) = parts;

@@ -1,6 +1,8 @@
 //! What ends features, subcomponents and connections: associations in braces, and a semicolon.
 
 ghost use Rattle.std.specs.Prelude.{refl};
+ghost use Rattle.aadl_parse.specs.Builds.{own_of, ending_of};
+ghost use Rattle.aadl_parse.specs.Grammar.{SpellsOwn, SpellsEnding};
 
 use crate::associations::AssociationText;
 use crate::made::{Production, Text};
@@ -30,7 +32,7 @@ impl Production for OwnText {
 
     type Value = Rows<Association>;
 
-    ghost build = { λ p. p.1.0 };
+    ghost build = { own_of };
 
     fn build(_alloc: Global, parts: <Self::Parts as Part>::Value) -> Self::Value {
         let ((), (associations, ())) = parts;
@@ -41,7 +43,7 @@ impl Production for OwnText {
 impl Part for OwnText {
     type Value = Rows<Association>;
 
-    ghost spells = { ⟦<Text<OwnText> as Part>⟧.spells };
+    ghost spells = { SpellsOwn };
 
     ghost starts = { ⟦<Text<OwnText> as Part>⟧.starts };
 
@@ -79,7 +81,7 @@ impl Production for EndingText {
 
     type Value = Option<Rows<Association>>;
 
-    ghost build = { λ p. p.0 };
+    ghost build = { ending_of };
 
     fn build(_alloc: Global, parts: <Self::Parts as Part>::Value) -> Self::Value {
         let (own, ()) = parts;
@@ -90,7 +92,7 @@ impl Production for EndingText {
 impl Part for EndingText {
     type Value = Option<Rows<Association>>;
 
-    ghost spells = { ⟦<Text<EndingText> as Part>⟧.spells };
+    ghost spells = { SpellsEnding };
 
     ghost starts = { ⟦<Text<EndingText> as Part>⟧.starts };
 

@@ -1,6 +1,8 @@
 //! The production of the paths that an association applies to.
 
 ghost use Rattle.std.specs.Prelude.{refl};
+ghost use Rattle.aadl_parse.specs.Builds.{behind_mark, behind_words};
+ghost use Rattle.aadl_parse.specs.Grammar.{SpellsApplies};
 
 use crate::list::Listed;
 use crate::made::{Production, Text};
@@ -22,7 +24,7 @@ impl Production for CommaPath {
 
     type Value = Path;
 
-    ghost build = { λ p. p.1 };
+    ghost build = { behind_mark };
 
     fn build(_alloc: Global, parts: <Self::Parts as Part>::Value) -> Self::Value {
         let ((), path) = parts;
@@ -46,7 +48,7 @@ impl Production for AppliesText {
 
     type Value = Rows<Path>;
 
-    ghost build = { λ p. p.1.1 };
+    ghost build = { behind_words };
 
     fn build(_alloc: Global, parts: <Self::Parts as Part>::Value) -> Self::Value {
         let ((), ((), paths)) = parts;
@@ -57,7 +59,7 @@ impl Production for AppliesText {
 impl Part for AppliesText {
     type Value = Rows<Path>;
 
-    ghost spells = { ⟦<Text<AppliesText> as Part>⟧.spells };
+    ghost spells = { SpellsApplies };
 
     ghost starts = { ⟦<Text<AppliesText> as Part>⟧.starts };
 

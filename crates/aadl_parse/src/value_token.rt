@@ -78,7 +78,7 @@ impl Terminal for NumberToken {
     ghost shaped = { number-shaped };
 }
 
-/// STRING
+/// STRING, or one with a byte that may not stand in it
 pub struct TextToken;
 
 impl Terminal for TextToken {
@@ -89,12 +89,14 @@ impl Terminal for TextToken {
     ghost shapes = { text_shapes };
 
     fn is_shaped(token: &Placed<Token>) -> bool {
-        shape(&token.token) == "STRING"
+        let shape = shape(&token.token);
+        shape == "STRING" || shape == "SPOILT"
     }
 
     fn value(alloc: Global, token: &Placed<Token>) -> Result<Option<Self::Value>, NoMemory> {
         match &token.token {
             Token::Text(text) => Ok(Some(PropertyValue::Text(Quoted::of(alloc, text.rows())?))),
+            Token::SpoiltText(_) => Ok(Some(PropertyValue::Text(Quoted::of(alloc, b"")?))),
             _ => Ok(None),
         }
     }

@@ -56,4 +56,8 @@ fn words(rt: &HostRuntime, alloc: Global) -> Result<WordList, NoMemory> {
 #[cfg(test)]
 mod model_tests;
 #[cfg(test)]
+mod refusal_tests;
+#[cfg(test)]
 mod tests;
+#[cfg(test)]
+mod tidy_tests;

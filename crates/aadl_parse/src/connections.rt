@@ -1,81 +1,24 @@
-//! The productions of subcomponents and connections.
+//! The productions of connections.
 
 ghost use Rattle.std.specs.Prelude.{refl};
+ghost use Rattle.aadl_parse.specs.Builds.{connection_end_of, connection_of};
+ghost use Rattle.aadl_parse.specs.Grammar.{SpellsDestination, SpellsConnection};
 
-use crate::classes::ClassText;
 use crate::leaf::Leaf;
 use crate::made::{Production, Text};
 use crate::name_token::NameAt;
 use crate::names::DotName;
 use crate::own::EndingText;
-use crate::part::{Behind, Closed, Part};
+use crate::part::{Behind, Part};
 use crate::sequence::{Before, Then};
 use crate::shape::Sign;
 use crate::surround::WithOptional;
 use crate::symbol::kinds::Port;
 use crate::symbol::operators::Arrow;
 use crate::symbol::points::Colon;
-use crate::word_token::CategoryWord;
-use aadl_tree::{Connection, ConnectionEnd, Subcomponent, Token};
+use aadl_tree::{Connection, ConnectionEnd, Token};
 use hw_text::{Cursor, Placed, ReadFault};
 use std::alloc::Global;
-
-impl Behind<ClassText> for EndingText {
-    ghost apart = { refl };
-}
-
-/// NAME ":" cat class [ own ] ";"
-pub struct SubcomponentText;
-
-impl Production for SubcomponentText {
-    type Parts = Then<
-        Leaf<NameAt>,
-        Then<Sign<Colon>, Then<Leaf<CategoryWord>, Before<ClassText, EndingText>>>,
-    >;
-
-    type Value = Subcomponent;
-
-    ghost build = { λ p. record { name = p.0; category = p.1.1.0; class = p.1.1.1.0; own = p.1.1.1.1 } };
-
-    fn build(_alloc: Global, parts: <Self::Parts as Part>::Value) -> Self::Value {
-        let (name, ((), (category, (class, own)))) = parts;
-        Subcomponent {
-            name,
-            category,
-            class,
-            own,
-        }
-    }
-}
-
-impl Part for SubcomponentText {
-    type Value = Subcomponent;
-
-    ghost spells = { ⟦<Text<SubcomponentText> as Part>⟧.spells };
-
-    ghost starts = { ⟦<Text<SubcomponentText> as Part>⟧.starts };
-
-    ghost goes_on = { ⟦<Text<SubcomponentText> as Part>⟧.goes_on };
-
-    ghost sample = { ⟦<Text<SubcomponentText> as Part>⟧.sample };
-
-    ghost begun = { ⟦<Text<SubcomponentText> as Part>⟧.begun };
-
-    fn stands(tokens: &Cursor<'_, Placed<Token>>) -> bool {
-        <Text<SubcomponentText>>::stands(tokens)
-    }
-
-    fn read(
-        alloc: Global,
-        tokens: &mut Cursor<'_, Placed<Token>>,
-    ) -> Result<Self::Value, ReadFault> {
-        <Text<SubcomponentText>>::read(alloc, tokens)
-    }
-}
-
-impl Behind<SubcomponentText> for SubcomponentText {
-    ghost apart = { refl };
-}
 
 /// NAME [ "." NAME ]
 pub struct EndText;
@@ -85,7 +28,7 @@ impl Production for EndText {
 
     type Value = ConnectionEnd;
 
-    ghost build = { λ p. record { first = p.0; port = p.1 } };
+    ghost build = { connection_end_of };
 
     fn build(_alloc: Global, parts: <Self::Parts as Part>::Value) -> Self::Value {
         let (first, port) = parts;
@@ -98,7 +41,7 @@ pub struct Destination;
 impl Part for Destination {
     type Value = <Then<Sign<Arrow>, Before<Text<EndText>, EndingText>> as Part>::Value;
 
-    ghost spells = { ⟦<Then<Sign<Arrow>, Before<Text<EndText>, EndingText>> as Part>⟧.spells };
+    ghost spells = { SpellsDestination };
 
     ghost starts = { ⟦<Then<Sign<Arrow>, Before<Text<EndText>, EndingText>> as Part>⟧.starts };
 
@@ -139,7 +82,7 @@ impl Production for ConnectionText {
 
     type Value = Connection;
 
-    ghost build = { λ p. record { name = p.0; from = p.1.1.1.0; to = p.1.1.1.1.1.0; own = p.1.1.1.1.1.1 } };
+    ghost build = { connection_of };
 
     fn build(_alloc: Global, parts: <Self::Parts as Part>::Value) -> Self::Value {
         let (name, ((), ((), (from, ((), (to, own)))))) = parts;
@@ -155,7 +98,7 @@ impl Production for ConnectionText {
 impl Part for ConnectionText {
     type Value = Connection;
 
-    ghost spells = { ⟦<Text<ConnectionText> as Part>⟧.spells };
+    ghost spells = { SpellsConnection };
 
     ghost starts = { ⟦<Text<ConnectionText> as Part>⟧.starts };
 
