@@ -6,6 +6,7 @@ use Rattle.hw_text.specs.declared.placed.Placed.{Placed}
 use Rattle.hw_text.specs.Language.{One, ◌⋅◌, ◌∣◌, Made, Maybe, Each}
 use Rattle.hw_text.specs.Reading.{Begins}
 use Rattle.aadl_tree.specs.declared.class.Class.{Class}
+use Rattle.aadl_tree.specs.declared.class_name.ClassName.{ClassName}
 use Rattle.aadl_tree.specs.declared.class.Class.TheVariants.{Base, Model}
 use Rattle.aadl_tree.specs.declared.class.BaseType.{BaseType}
 use Rattle.aadl_tree.specs.declared.names.Named.{Named}
@@ -53,7 +54,7 @@ SpellsPath = Made path_of (One named_of ⋅ Each (Made name_behind (Symbol (code
 abbrev pub base_class_of : Place × (⊤ × BaseType) → Class
 base_class_of p = Base p.0 p.1.1
 
-abbrev pub model_class_of : ((List ℕ × Place) × List (List ℕ)) × Option (List ℕ) → Class
+abbrev pub model_class_of : ((ClassName × Place) × List (List ℕ)) × Option (List ℕ) → Class
 model_class_of p = Model (record { first = p.0.0.0; place = p.0.0.1; others = p.0.1; implementation = p.1 })
 
 abbrev pub first_class : Class → Choice Class Class
@@ -250,7 +251,7 @@ a_range =
 a_class : (c : Class) × (w : List (Placed Token)) × SpellsClass c w
 unfolding a_name
 a_class =
-    let p : ((List ℕ × Place) × List (List ℕ)) × Option (List ℕ) = (((codes "a", start), []), None) in
+    let p : ((ClassName × Place) × List (List ℕ)) × Option (List ℕ) = (((record { name = codes "a"; other = refl }, start), []), None) in
     let w : List (Placed Token) = alone a_name in
     (model_class_of p, w, (Second (model_class_of p), refl, inr (model_class_of p, refl, (p, refl, (w, [], refl, (w, [], refl, (at_start a_name, refl, refl), refl), refl)))))
 

@@ -1,5 +1,6 @@
 -- The tokens that have values, and their shapes.
 use Rattle.std.specs.Prelude.{◌≡◌, ℕ, Bool, true, false, List, [], ◌∷◌, codes, Option, Some, None, if◌then◌else◌, refl, is_some}
+use Rattle.std.specs.Option.{option_map}
 use Rattle.std.specs.Str.{bytes_eq}
 use Rattle.std.specs.List.{list_any}
 use Rattle.std.proofs.Common.{ap}
@@ -20,7 +21,9 @@ use Rattle.aadl_tree.specs.declared.feature.Direction.{Direction}
 use Rattle.aadl_tree.specs.declared.feature.Direction.TheVariants as direction
 use Rattle.aadl_tree.specs.declared.class.BaseType.{BaseType}
 use Rattle.aadl_tree.specs.declared.class.BaseType.TheVariants as base
+use Rattle.aadl_tree.specs.declared.class_name.ClassName.{ClassName}
 use Rattle.aadl_tree.specs.Classes.{is_base_package, base_name}
+use Rattle.aadl_tree.specs.ClassNames.{own_name_by, own_name}
 use Rattle.aadl_parse.specs.Shapes.{shape, one_of}
 
 never_some : {X : Type 0} (x : X) → None ≡ Some x → ⊥
@@ -50,8 +53,11 @@ abbrev pub base_package_of : Placed Token → Option Place
 base_package_of t = on_name (λ n at. if is_base_package n then Some at else None) t.token t.place
 
 -- another name, and where it stands
-abbrev pub class_name_of : Placed Token → Option (List ℕ × Place)
-class_name_of t = on_name (λ n at. if is_base_package n then None else Some (n, at)) t.token t.place
+abbrev pub class_name_at : List ℕ → Place → Option (ClassName × Place)
+class_name_at n at = option_map (λ own. (own, at)) (own_name n)
+
+abbrev pub class_name_of : Placed Token → Option (ClassName × Place)
+class_name_of t = on_name class_name_at t.token t.place
 
 abbrev pub all_bases : List BaseType
 all_bases =
@@ -152,12 +158,12 @@ base_at-shaped (token.Mark m) at x e = absurd (never_some x e)
 pub base_package-shaped : (t : Placed Token) (x : Place) → base_package_of t ≡ Some x → one_of (codes "base_types" ∷ []) t ≡ true
 base_package-shaped t x e = base_at-shaped t.token t.place x e
 
-class-either : {X : Type 0} (b : Bool) (x y : X) → (if b then None else Some y) ≡ Some x → list_any (bytes_eq (if b then codes "base_types" else codes "NAME")) (codes "NAME" ∷ []) ≡ true
-class-either true x y e = absurd (never_some x e)
-class-either false x y e = refl
+class-either : (n : List ℕ) (b : Bool) (is : is_base_package n ≡ b) (at : Place) (x : ClassName × Place) → option_map (λ own. (own, at)) (own_name_by n b is) ≡ Some x → list_any (bytes_eq (if b then codes "base_types" else codes "NAME")) (codes "NAME" ∷ []) ≡ true
+class-either n true is at x e = absurd (never_some x e)
+class-either n false is at x e = refl
 
-class_at-shaped : (t : Token) (at : Place) (x : List ℕ × Place) → on_name (λ n at. if is_base_package n then None else Some (n, at)) t at ≡ Some x → list_any (bytes_eq (shape t)) (codes "NAME" ∷ []) ≡ true
-class_at-shaped (token.Name n) at x e = class-either (is_base_package n) x (n, at) e
+class_at-shaped : (t : Token) (at : Place) (x : ClassName × Place) → on_name class_name_at t at ≡ Some x → list_any (bytes_eq (shape t)) (codes "NAME" ∷ []) ≡ true
+class_at-shaped (token.Name n) at x e = class-either n (is_base_package n) refl at x e
 class_at-shaped (token.Word w) at x e = absurd (never_some x e)
 class_at-shaped (token.Integer n) at x e = absurd (never_some x e)
 class_at-shaped (token.Real r) at x e = absurd (never_some x e)
@@ -166,7 +172,7 @@ class_at-shaped (token.SpoiltText n) at x e = absurd (never_some x e)
 class_at-shaped (token.Annex s) at x e = absurd (never_some x e)
 class_at-shaped (token.Mark m) at x e = absurd (never_some x e)
 
-pub class_name-shaped : (t : Placed Token) (x : List ℕ × Place) → class_name_of t ≡ Some x → one_of (codes "NAME" ∷ []) t ≡ true
+pub class_name-shaped : (t : Placed Token) (x : ClassName × Place) → class_name_of t ≡ Some x → one_of (codes "NAME" ∷ []) t ≡ true
 class_name-shaped t x e = class_at-shaped t.token t.place x e
 
 word_category-shaped : (w : Word) (x : Category) → word_category w ≡ Some x → list_any (bytes_eq (shape (token.Word w))) category_shapes ≡ true

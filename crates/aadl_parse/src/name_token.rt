@@ -118,7 +118,7 @@ impl Terminal for ClassNameAt {
         }
     }
 
-    ghost sample = { (record { token = token.Name (codes "a"); place = start }, (codes "a", start), refl) };
+    ghost sample = { (record { token = token.Name (codes "a"); place = start }, (record { name = codes "a"; other = refl }, start), refl) };
 
     ghost shaped = { class_name-shaped };
 }

@@ -61,7 +61,7 @@ base_tokens base = token.Name (codes "base_types") ∷ token.Mark mark.DoubleCol
 -- the same, or NAME { "::" NAME } [ "." NAME ]
 abbrev pub class_tokens : Class → List Token
 class_tokens (Base at base) = base_tokens base
-class_tokens (Model m) = token.Name m.first ∷ flat_map behind_colons m.others ++ maybe_behind_dot m.implementation
+class_tokens (Model m) = token.Name m.first.name ∷ flat_map behind_colons m.others ++ maybe_behind_dot m.implementation
 
 -- nothing for no member, and else the word and the members
 abbrev pub section_tokens : {X : Type 0} → Word → (X → List Token) → List X → List Token

@@ -1,5 +1,5 @@
 -- How the tokens of a canonical text are laid out on lines (this project's own; docs/formats/model.md).
-use Rattle.std.specs.Prelude.{ℕ, pos, Bool, true, false, if◌then◌else◌, List, [], ◌∷◌, ◌++◌, codes}
+use Rattle.std.specs.Prelude.{ℕ, pos, Bool, true, false, ◌&&◌, if◌then◌else◌, List, [], ◌∷◌, ◌++◌, codes}
 use Rattle.std.specs.Fmt.{signed_decimal}
 use Rattle.aadl_tree.specs.declared.token.Token.{Token}
 use Rattle.aadl_tree.specs.declared.token.Token.TheVariants as token
@@ -10,9 +10,10 @@ use Rattle.aadl_tree.specs.declared.mark.Mark.TheVariants as mark
 use Rattle.aadl_tree.specs.declared.package.Package.{Package}
 use Rattle.aadl_tree.specs.declared.page.Margin.{Margin}
 use Rattle.aadl_tree.specs.declared.page.Margin.TheVariants.{LineStart, Loose, Tight}
-use Rattle.aadl_tree.specs.declared.page.Page.{Page}
+use Rattle.aadl_tree.specs.Allowed.{is_allowed}
 use Rattle.aadl_tree.specs.Marks.{mark_spelling}
 use Rattle.aadl_tree.specs.Packages.{package_tokens}
+use Rattle.aadl_tree.specs.Sheet.{Sheet}
 use Rattle.aadl_tree.specs.Words.{word_spelling}
 
 -- names and words in lower case, whole numbers in decimal, all else as it is written
@@ -101,11 +102,14 @@ abbrev pub canonical_text : Package → List ℕ
 canonical_text p = laid_from LineStart (package_tokens p)
 
 -- a page with one more token on it
-unfoldable pub with_token : Page → Token → Page
-with_token page t =
-    record { text = page.text ++ gap page.margin t ++ token_text t ++ line_end (ends_line t); margin = margin_behind t }
+unfoldable pub with_token : Sheet → Token → Sheet
+with_token page t = record {
+  text = page.text ++ gap page.margin t ++ token_text t ++ line_end (ends_line t);
+  margin = margin_behind t;
+  sound = page.sound && is_allowed t;
+}
 
 -- a page with these tokens more on it
-abbrev pub written : Page → List Token → Page
+abbrev pub written : Sheet → List Token → Sheet
 written page [] = page
 written page (t ∷ ts) = written (with_token page t) ts

@@ -1,9 +1,14 @@
+pub mod Allowed
 pub mod Canonical
 pub mod Classes
+pub mod ClassNames
 pub mod Layout
+pub mod Lexed
 pub mod Marks
 pub mod Packages
+pub mod Sheet
 pub mod Text
 pub mod Tokens
+pub mod Unplaced
 pub mod Values
 pub mod Words

@@ -1,11 +1,11 @@
 //! Laying out tokens on lines.
 
-ghost use Rattle.std.specs.Prelude.{◌≡◌, ◌++◌, [], OnOk};
-ghost use Rattle.aadl_tree.specs.declared.page.Page.{Page};
+ghost use Rattle.std.specs.Prelude.{◌≡◌, ◌++◌, [], true, OnOk};
 ghost use Rattle.aadl_tree.specs.declared.page.Margin.{Margin};
 ghost use Rattle.aadl_tree.specs.declared.page.Margin.TheVariants.{LineStart};
 ghost use Rattle.aadl_tree.specs.declared.token.Token.TheVariants as token;
 ghost use Rattle.aadl_tree.specs.Layout.{word_begins_line, word_ends_line, is_semicolon, is_tight, is_close, gap_text, line_end, margin_of, with_token, written};
+ghost use Rattle.aadl_tree.specs.Allowed.{IsAllowed};
 ghost use Rattle.aadl_tree.specs.Canonical.{base_tokens};
 
 use crate::annex_text::AnnexText;
@@ -17,6 +17,7 @@ use crate::real::Real;
 use crate::word::Word;
 use hw_text::{Name, NoMemory, TextBuf};
 use std::alloc::Global;
+use std::marker::Model;
 
 /// Where the next token stands.
 #[derive(Clone, Copy, Debug, PartialEq, Eq)]
@@ -35,10 +36,19 @@ pub struct Page {
     margin: Margin,
 }
 
+impl Model for Page {
+    ghost use Rattle.std.specs.Prelude.{true};
+    ghost use Rattle.aadl_tree.specs.Sheet.{Sheet};
+
+    ghost Value = { Sheet };
+
+    ghost view = { λ p. record { text = p.text; margin = p.margin; sound = true } };
+}
+
 #[tactic(auto, unfolding(crate::specs::Layout::with_token))]
 impl Page {
     pub fn new(alloc: Global) -> Page
-        ensures { result ≡ record { text = []; margin = LineStart } }
+        ensures { result ≡ record { text = []; margin = LineStart; sound = true } }
     {
         Page {
             text: TextBuf::new(alloc),
@@ -47,7 +57,8 @@ impl Page {
     }
 
     pub fn into_text(self) -> TextBuf
-        ensures { result ≡ self.text }
+        ensures text { result ≡ self.text }
+        ensures sound { self.sound ≡ true }
     {
         let Page { text, .. } = self;
         text
@@ -121,6 +132,7 @@ impl Page {
 
     /// Appends a name.
     fn plain(&mut self, name: &[u8]) -> Result<(), NoMemory>
+        requires { IsAllowed (token.Name name.now) }
         ensures { OnOk result (self.new ≡ with_token self.old (token.Name name.now)) }
     {
         self.part(false, false)?;
@@ -142,7 +154,8 @@ impl Page {
 
     /// Appends what stands behind a token.
     fn leave(&mut self, ends_line: bool, is_tight: bool) -> Result<(), NoMemory>
-        ensures { OnOk result (self.new ≡ record { text = self.old.text ++ line_end ends_line; margin = margin_of ends_line is_tight }) }
+        ensures left { OnOk result (self.new ≡ record self.old { text = self.old.text ++ line_end ends_line; margin = margin_of ends_line is_tight }) }
+        ensures sound { OnOk result (self.old.sound ≡ true) }
     {
         if ends_line {
             self.text.newline()?;

@@ -52,7 +52,7 @@ impl Class {
         match self {
             Class::Base(_, base) => page.base_type(*base),
             Class::Model(own) => {
-                page.name(own.first.name())?;
+                page.name(&own.first.name)?;
                 print_behind_colons(page, own.others.rows())?;
                 print_maybe_behind_dot(page, &own.implementation)
             }

@@ -3,8 +3,10 @@
 ghost use Rattle.std.specs.Prelude.{◌≡◌, ◌∷◌, [], IfOk, OnOk};
 ghost use Rattle.std.specs.List.{flat_map};
 ghost use Rattle.aadl_tree.specs.declared.word.Word.TheVariants as word;
+ghost use Rattle.aadl_tree.specs.Allowed.{AreAllowed};
 ghost use Rattle.aadl_tree.specs.Canonical.{behind_comma, qualified_tokens, section_tokens};
 ghost use Rattle.aadl_tree.specs.Layout.{canonical_text, written};
+ghost use Rattle.aadl_tree.specs.Lexed.{HasTokens};
 ghost use Rattle.aadl_tree.specs.Packages.{annex_token, annex_tokens, feature_tokens, subcomponent_tokens, connection_tokens, type_tokens, implementation_tokens, declaration_tokens, import_tokens, package_tokens};
 ghost use Rattle.aadl_tree.specs.Values.{association_tokens};
 
@@ -26,7 +28,9 @@ use std::alloc::Global;
 /// but for texts and annexes, laid out on lines.
 #[tactic(auto, using(crate::proofs::Writing::text_of_page))]
 pub fn print(alloc: Global, model: &Package) -> Result<TextBuf, NoMemory>
-    ensures { IfOk result (λ text. text ≡ canonical_text model.now) }
+    ensures text { IfOk result (λ text. text ≡ canonical_text model.now) }
+    ensures allowed { OnOk result (AreAllowed (package_tokens model.now)) }
+    ensures tokens { IfOk result (λ text. HasTokens text (package_tokens model.now)) }
 {
     let mut page = Page::new(alloc);
     model.print(&mut page)?;

@@ -57,14 +57,14 @@ is-device t d is =
 type-is : (c : Class) (name : List ℕ) → type_name c ≡ Some name → IsTypeName c name
 type-is (class.Base place b) name e = none-some name e
 type-is (class.Model c) name e =
-    let p = if_some (is_none c.implementation) (alone c.first c.others) name e in
-    let a = alone-is c.first name c.others p.1 in
+    let p = if_some (is_none c.implementation) (alone c.first.name c.others) name e in
+    let a = alone-is c.first.name name c.others p.1 in
     (a.0, a.1, none-is c.implementation p.0)
 
 is-type : (c : Class) (name : List ℕ) → IsTypeName c name → type_name c ≡ Some name
 is-type (class.Base place b) name h = absurd h
 is-type (class.Model c) name h =
-    some_if (is_none c.implementation) (alone c.first c.others) name (is-none c.implementation h.2) (is-alone c.first name c.others h.0 h.1)
+    some_if (is_none c.implementation) (alone c.first.name c.others) name (is-none c.implementation h.2) (is-alone c.first.name name c.others h.0 h.1)
 
 pub subcomponent-is : (s : Subcomponent) (t : ThinSubcomponent) → subcomponent_of s ≡ Some t → IsSubcomponent s t
 unfolding subcomponent_of

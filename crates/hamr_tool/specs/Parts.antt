@@ -125,7 +125,7 @@ device_of t = do
 -- the name of a component type, without `::` and without an implementation
 abbrev pub type_name : Class → Option (List ℕ)
 type_name (class.Base place b) = None
-type_name (class.Model c) = if is_none c.implementation then alone c.first c.others else None
+type_name (class.Model c) = if is_none c.implementation then alone c.first.name c.others else None
 
 -- NAME: device NAME
 unfoldable pub subcomponent_of : Subcomponent → Option ThinSubcomponent

@@ -89,7 +89,7 @@ pub record IsDevice (tree : ComponentType) (d : Device) : Type 0 where
 -- NAME of a component type, without `::` and without an implementation
 abbrev pub IsTypeName : Class → List ℕ → Type 0
 IsTypeName (class.Base place b) name = ⊥
-IsTypeName (class.Model c) name = (c.first ≡ name) × (c.others ≡ []) × (c.implementation ≡ None)
+IsTypeName (class.Model c) name = (c.first.name ≡ name) × (c.others ≡ []) × (c.implementation ≡ None)
 
 -- NAME: device NAME;
 pub record IsSubcomponent (tree : Subcomponent) (s : ThinSubcomponent) : Type 0 where

@@ -1,7 +1,7 @@
 use Rattle.std.proofs.Common.{◌≡◌, List, [], ◌∷◌, ◌++◌, ap, sym, refl, ◌∙◌}
 use Rattle.std.specs.List.{flat_map}
 use Rattle.aadl_tree.specs.declared.mark.Mark.TheVariants as mark
-use Rattle.aadl_tree.specs.declared.page.Page.{Page}
+use Rattle.aadl_tree.specs.Sheet.{Sheet}
 use Rattle.aadl_tree.specs.declared.token.Token.{Token}
 use Rattle.aadl_tree.specs.declared.token.Token.TheVariants as token
 use Rattle.aadl_tree.specs.declared.value.PropertyValue.{PropertyValue}
@@ -24,7 +24,7 @@ print_values::print_separated-loop-value-preserved t c =
     let others = c.in-Some.others.now in
     each_step (behind_comma value_tokens) others c.loop-value.value-index v c.loop-value.page c.print-in-loop-value.new.page
     (written c.print.new.page (flat_map (behind_comma value_tokens) others)) c.loop-value-test.true c.value-item.is
-    (c.in_ok-print-2.ensures ∙ ap (λ (p : Page). written p (value_tokens v)) c.in_ok-mark.ensures) c.loop-value.invariant
+    (c.in_ok-print-2.ensures ∙ ap (λ (p : Sheet). written p (value_tokens v)) c.in_ok-mark.ensures) c.loop-value.invariant
 
 pub print_values::print_separated-returns : goal.print_values::print_separated-returns
 print_values::print_separated-returns t c =
@@ -55,4 +55,4 @@ value::RecordField::print-returns t c =
     let here = bracketed c.mark-2.result c.name.new.self c.mark.new.self c.print.new.page c.mark-2.new.self (token.Mark mark.Association)
     (token.Mark mark.Semicolon) (value_tokens f.value) rest refl c.in_ok-mark.ensures c.in_ok-print.ensures c.mark-2.ensures in
     on_ok c.mark-2.result (c.mark-2.new.self ≡ written c.name.new.self rest) (c.mark-2.new.self ≡ written c.args.page.now (field_tokens f))
-    (λ e. e ∙ ap (λ (p : Page). written p rest) c.in_ok-name.ensures ∙ ap (λ (ts : List Token). written c.args.page.now ts) (sym (field_tokens-of f))) here
+    (λ e. e ∙ ap (λ (p : Sheet). written p rest) c.in_ok-name.ensures ∙ ap (λ (ts : List Token). written c.args.page.now ts) (sym (field_tokens-of f))) here

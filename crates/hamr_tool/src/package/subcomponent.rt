@@ -47,7 +47,7 @@ fn type_name(class: &Class) -> Option<&Name>
             if class.implementation.is_some() || !class.others.is_empty() {
                 return None;
             }
-            Some(class.first.name())
+            Some(&class.first.name)
         }
     }
 }
