@@ -4,8 +4,19 @@ pub mod Failures
 mod Flawless
 mod OneAndEach
 pub mod Parses
+pub mod PrintedLaw
 mod QuantityReads
 mod Repeats
+pub mod Respelled
+pub mod RespelledComponents
+pub mod RespelledDeclarations
+pub mod RespelledKinds
+pub mod RespelledLists
+pub mod RespelledMembers
+pub mod RespelledNames
+pub mod RespelledPackages
+pub mod RespelledTypes
+pub mod RespelledValues
 mod Sequences
 mod SomeOf
 mod Spelling

@@ -4,6 +4,7 @@ pub mod Fronts
 pub mod Grammar
 pub mod Laws
 pub mod LeftOut
+pub mod Printed
 pub mod Refusals
 pub mod Shapes
 pub mod SimpleValue

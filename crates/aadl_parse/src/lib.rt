@@ -30,6 +30,7 @@ mod part;
 mod paths;
 mod plain_value;
 mod port_kinds;
+mod printed;
 mod quantity;
 mod quoted_text;
 mod reader;
@@ -55,6 +56,7 @@ mod word;
 mod word_token;
 
 pub use lexer::{Lexed, read_tokens};
+pub use printed::printed_is_text;
 pub use reader::parse;
 pub use stop::Stop;
 

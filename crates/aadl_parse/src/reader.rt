@@ -1,8 +1,14 @@
 //! Whole texts: from bytes to the value that they are a text of, or to the first failure.
 
 ghost use Rattle.std.specs.Prelude.{◌≡◌, ◌<◌, ℕ, slice_get, Some, None, IfOk};
+ghost use Rattle.aadl_tree.specs.declared.package.Package.{Package};
+ghost use Rattle.aadl_tree.specs.Allowed.{AreAllowed};
+ghost use Rattle.aadl_tree.specs.Layout.{canonical_text};
+ghost use Rattle.aadl_tree.specs.Packages.{package_tokens};
+ghost use Rattle.aadl_tree.specs.Unplaced.{SamePackage};
 ghost use Rattle.aadl_parse.specs.Flaws.{flaw_at};
 ghost use Rattle.aadl_parse.specs.Grammar.{SpellsPackage};
+ghost use Rattle.aadl_parse.specs.Printed.{IsWithinLimits};
 ghost use Rattle.aadl_parse.specs.Refusals.{IsAccepted, IsRejected, IfRefused, IsSound, FailsAt, unexpected_there, FlawIsTold};
 
 use crate::flaw::{Flawed, first_flawed};
@@ -16,10 +22,12 @@ use aadl_tree::Package;
 use hw_text::{Fault, NoMemory, Refusal};
 use std::alloc::Global;
 
-/// The package that a text is a text of, or why it is no model.
+/// The package that a text is a text of, or why it is no model. What is printed of a package is
+/// read as the same package, but for places.
 pub fn parse(alloc: Global, bytes: &[u8]) -> Result<Package, Fault>
     ensures accepted { IfOk result (λ tree. IsAccepted SpellsPackage bytes.now tree) }
     ensures rejected { IfRefused result (λ refusal. IsRejected SpellsPackage bytes.now refusal) }
+    ensures printed { (p : Package) → bytes.now ≡ canonical_text p → AreAllowed (package_tokens p) → IsWithinLimits p → IfOk result (SamePackage p) × IfRefused result (λ refusal. ⊥) }
 {
     read_text::<PackageText>(alloc, bytes)
 }

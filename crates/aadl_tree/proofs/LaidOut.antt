@@ -19,11 +19,12 @@ use Rattle.aadl_tree.specs.declared.token.Token.{Token}
 use Rattle.aadl_tree.specs.declared.token.Token.TheVariants as token
 use Rattle.aadl_tree.specs.Allowed.{IsAllowed, AreAllowed}
 use Rattle.aadl_tree.specs.Layout.{token_text, word_begins_line, word_ends_line, is_semicolon, is_tight, is_close, gap_text, gap, line_end, ends_line, margin_of, margin_behind, laid_from}
-use Rattle.aadl_tree.specs.Lexed.{HasTokens}
+use Rattle.aadl_tree.specs.Lexed.{HasTokensAt, HasTokens}
 use Rattle.aadl_tree.specs.Tokens.{token_at}
 use Rattle.aadl_tree.proofs.Apart.{AreBehind, AreApart}
 use Rattle.aadl_tree.proofs.BehindTokens.{behind_token, laid-first, behind-name, parted-behind, tight-then}
 use Rattle.aadl_tree.proofs.NumberTokens.{integer-stands, real-stands}
+use Rattle.aadl_tree.proofs.OneReading.{same-tokens}
 use Rattle.aadl_tree.proofs.Partings.{parted-stops, StandsBefore}
 use Rattle.aadl_tree.proofs.SymbolTokens.{word-stands, mark-stands}
 use Rattle.aadl_tree.proofs.TextTokens.{text-stands, annex-stands}
@@ -102,11 +103,20 @@ laid m t (u ∷ us) at allowed behind =
     laid-next m t (u ∷ us) at (stands t (u ∷ us) (All-head IsAllowed t (u ∷ us) allowed) more behind)
     (λ next. subst (λ (s : List ℕ). Laid next s (u ∷ us)) (sym (skipped-line_end (ends_line t) (laid_from (margin_behind t) (u ∷ us)))) (laid (margin_behind t) u us next more behind.1))
 
+-- what these tokens are at a place behind blanks, they are in the text, and no others are
+has-tokens : (at : Place) (bytes : List ℕ) (ts : List Token) → Laid (place_of_rest at bytes (skipped bytes)) (skipped bytes) ts → HasTokensAt at bytes ts
+has-tokens at bytes ts all = record {
+  placed = all.0;
+  end = all.1;
+  lexed = all.3;
+  same = all.2;
+  only = λ others other rest lexed. same-tokens all.0 others (place_of_rest at bytes (skipped bytes)) all.1 other (skipped bytes) [] rest all.3 lexed;
+}
+
 -- allowed tokens of which each `::` and `.` stands between two names are the tokens of the text that they are laid out in
 pub laid_out : (ts : List Token) → AreAllowed ts → AreApart ts → HasTokens (laid_from LineStart ts) ts
 unfolding token_at
-laid_out [] allowed apart at = record { placed = []; end = at; lexed = (refl, refl, refl); same = refl }
+laid_out [] allowed apart at = has-tokens at [] [] ([], place_of_rest at [] [], refl, (refl, refl, refl))
 laid_out (t ∷ us) allowed apart at =
     let bytes : List ℕ = laid_from LineStart (t ∷ us) in
-    let all = laid LineStart t us (place_of_rest at bytes (skipped bytes)) allowed apart.1 in
-    record { placed = all.0; end = all.1; lexed = all.3; same = all.2 }
+    has-tokens at bytes (t ∷ us) (laid LineStart t us (place_of_rest at bytes (skipped bytes)) allowed apart.1)

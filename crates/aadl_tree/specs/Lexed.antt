@@ -13,6 +13,7 @@ pub record HasTokensAt (at : Place) (bytes : List ℕ) (ts : List Token) : Type 
   pub end : Place
   pub lexed : Lexes token_at skipped at bytes placed end []
   pub same : map (λ t. t.token) placed ≡ ts
+  pub only : (others : List (Placed Token)) (other : Place) (rest : List ℕ) → Lexes token_at skipped at bytes others other rest → others ≡ placed
 
 -- the same wherever it stands
 abbrev pub HasTokens : List ℕ → List Token → Type 0

@@ -90,31 +90,16 @@ unplaced_kind kind.Event = kind.Event
 unplaced_kind (kind.EventData class) = kind.EventData (unplaced_class class)
 
 abbrev pub unplaced_feature : Feature → Feature
-unplaced_feature f = record {
-  name = unplaced_named f.name;
-  direction = f.direction;
-  kind = unplaced_kind f.kind;
-  own = unplaced_own f.own;
-}
+unplaced_feature f = record { name = unplaced_named f.name; direction = f.direction; kind = unplaced_kind f.kind; own = unplaced_own f.own }
 
 abbrev pub unplaced_subcomponent : Subcomponent → Subcomponent
-unplaced_subcomponent s = record {
-  name = unplaced_named s.name;
-  category = s.category;
-  class = unplaced_class s.class;
-  own = unplaced_own s.own;
-}
+unplaced_subcomponent s = record { name = unplaced_named s.name; category = s.category; class = unplaced_class s.class; own = unplaced_own s.own }
 
 abbrev pub unplaced_end : ConnectionEnd → ConnectionEnd
 unplaced_end e = record { first = unplaced_named e.first; port = e.port }
 
 abbrev pub unplaced_connection : Connection → Connection
-unplaced_connection c = record {
-  name = unplaced_named c.name;
-  from = unplaced_end c.from;
-  to = unplaced_end c.to;
-  own = unplaced_own c.own;
-}
+unplaced_connection c = record { name = unplaced_named c.name; from = unplaced_end c.from; to = unplaced_end c.to; own = unplaced_own c.own }
 
 abbrev pub unplaced_annex : Annex → Annex
 unplaced_annex a = record { name = unplaced_named a.name; text = a.text; text_place = origin }
