@@ -1,4 +1,4 @@
 pub mod Arch
 pub mod LookUp
+pub mod PortType
 pub mod Receivers
-pub mod Value

@@ -2,7 +2,7 @@
 use Rattle.std.proofs.Common.{◌≡◌, ℕ, ℤ, ◌<◌, ◌≤◌, ◌+◌, List, ◌∷◌, ◌++◌, length}
 use Rattle.std.specs.Prelude.{All}
 use Rattle.arch_model.specs.declared.parts.ArchParts.{ArchParts}
-use Rattle.arch_model.specs.Value.{IsInteger32}
+use Rattle.arch_model.specs.PortType.{IsPortValue}
 use Rattle.hamr_tool.specs.declared.trace.line.Line.{Line}
 use Rattle.hamr_tool.specs.Trace.{FitsTrace, NoLineBegins}
 use Rattle.hamr_tool.specs.TraceText.{values_text, further_text, line_text, trace_text, value_text}
@@ -11,21 +11,21 @@ use Rattle.hamr_tool.specs.TraceWord.{EndsWord}
 -- no other value stands in front
 abbrev pub OnlyValue : List ℕ → List ℤ → List ℕ → Type 0
 OnlyValue bytes read rest =
-    (value : List ℤ) (more : List ℕ) → IsInteger32 value → EndsWord more → bytes ≡ value_text value ++ more → (read ≡ value) × (rest ≡ more)
+    (value : List ℤ) (more : List ℕ) → IsPortValue value → EndsWord more → bytes ≡ value_text value ++ more → (read ≡ value) × (rest ≡ more)
 
 -- of these values, some are read, and the rest of the text writes the others, a bracket and more
 pub record ValuesLeft (values : List (List ℤ)) (rest : List ℕ) (all_values : List (List ℤ)) (more : List ℕ) : Type 0 where
   pub others : List (List ℤ)
   pub whole : all_values ≡ values ++ others
-  pub typed : All IsInteger32 others
+  pub typed : All IsPortValue others
   pub text : rest ≡ further_text others ++ 93 ∷ more
 
 -- values are read from the front of the bytes
 pub record ReadsValues (bytes : List ℕ) (values : List (List ℤ)) (rest : List ℕ) : Type 0 where
-  pub typed : All IsInteger32 values
+  pub typed : All IsPortValue values
   pub some : 0 < length values
   pub text : bytes ≡ values_text values ++ rest
-  pub left : (value : List ℤ) (others : List (List ℤ)) (more : List ℕ) → All IsInteger32 (value ∷ others)
+  pub left : (value : List ℤ) (others : List (List ℤ)) (more : List ℕ) → All IsPortValue (value ∷ others)
       → bytes ≡ values_text (value ∷ others) ++ 93 ∷ more → ValuesLeft values rest (value ∷ others) more
 
 -- no other line stands in front

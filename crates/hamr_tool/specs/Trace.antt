@@ -3,7 +3,7 @@ use Rattle.std.specs.Prelude.{◌≡◌, ◌≢◌, ◌⊎◌, ℕ, ℤ, Bool, t
 use Rattle.arch_model.specs.declared.parts.ArchParts.{ArchParts}
 use Rattle.arch_model.specs.declared.id.PdId.{PdId}
 use Rattle.arch_model.specs.declared.id.PortId.{PortId}
-use Rattle.arch_model.specs.Value.{IsInteger32}
+use Rattle.arch_model.specs.PortType.{IsPortValue}
 use Rattle.hw_text.specs.Name.{is_name}
 use Rattle.rts_rules.specs.declared.event.What.{What}
 use Rattle.rts_rules.specs.declared.event.What.TheVariants as act
@@ -29,11 +29,11 @@ pub record IsNamedPort (arch : ArchParts) (who : PdId) (outward : Bool) (port : 
 
 pub record FitsReceive (arch : ArchParts) (who : PdId) (port : PortId) (values : List (List ℤ)) : Type 0 where
   pub in_port : IsNamedPort arch who false port
-  pub typed : All IsInteger32 values
+  pub typed : All IsPortValue values
 
 pub record FitsRelease (arch : ArchParts) (who : PdId) (port : PortId) (value : List ℤ) : Type 0 where
   pub out_port : IsNamedPort arch who true port
-  pub typed : IsInteger32 value
+  pub typed : IsPortValue value
 
 -- devices receive and release, and do nothing else
 abbrev pub FitsWhat : ArchParts → PdId → What → Type 0

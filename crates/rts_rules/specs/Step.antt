@@ -7,7 +7,7 @@ use Rattle.arch_model.specs.declared.id.PdId.{PdId}
 use Rattle.arch_model.specs.declared.id.PortId.{PortId}
 use Rattle.arch_model.specs.declared.role.Role.TheVariants.{Device}
 use Rattle.arch_model.specs.LookUp.{receivers_of}
-use Rattle.arch_model.specs.Value.{IsInteger32}
+use Rattle.arch_model.specs.PortType.{IsPortValue}
 use Rattle.rts_rules.specs.declared.event.Event.{Event}
 use Rattle.rts_rules.specs.declared.event.What.{What}
 use Rattle.rts_rules.specs.declared.event.What.TheVariants as what
@@ -34,7 +34,7 @@ Waits state port items = IsSomeAnd (slice_get state.queues port.0) (λ queue. it
 pub record IsReleaseOfDevice (arch : ArchParts) (who : PdId) (port : PortId) (value : List ℤ) : Type 0 where
   pub device : IsDevice arch who
   pub own : IsPortOf arch who true port
-  pub typed : IsInteger32 value
+  pub typed : IsPortValue value
 
 -- a device receives all that waits at a connected in port
 pub record IsReceiveOfDevice (arch : ArchParts) (state : Services) (who : PdId) (port : PortId) (items : List (List ℤ)) : Type 0 where

@@ -7,7 +7,7 @@ ghost use Rattle.rts_rules.specs.Step.{IsAllowed, after, IsEventOf, IsDevice, Is
 ghost use Rattle.rts_rules.specs.Fault.{IfIllegal};
 ghost use Rattle.rts_rules.specs.Rule.{rule_of};
 
-use crate::values::{is_integer_32, same_values};
+use crate::values::{is_port_value, same_values};
 use crate::waiting::WaitingQueue;
 use crate::{Event, StepFault, What};
 use arch_model::{Arch, PdId, PortId, Role};
@@ -80,7 +80,7 @@ impl ServiceState {
             What::Release(port, value) => {
                 is_device(arch, e.who)
                     && is_port_of(arch, e.who, true, *port)
-                    && is_integer_32(value)
+                    && is_port_value(value)
             }
             _ => false,
         }

@@ -1,9 +1,9 @@
 //! Tests of values.
 
 ghost use Rattle.std.specs.Prelude.{◌≡◌, ◌↔◌, IsTrue};
-ghost use Rattle.arch_model.specs.Value.{IsInteger32};
+ghost use Rattle.arch_model.specs.PortType.{IsPortValue};
 
-use hw_types::Value;
+use hw_types::{Scalar, Value};
 
 /// Whether two lists have the same values.
 pub fn same_values(one: &[Value], other: &[Value]) -> bool
@@ -26,12 +26,12 @@ fn same_value(one: &Value, other: &Value) -> bool
     one.rows() == other.rows()
 }
 
-/// Whether a value is one of Integer_32.
-pub fn is_integer_32(value: &Value) -> bool
-    ensures { IsTrue result ↔ IsInteger32 value.now }
+/// Whether ports carry a value.
+pub fn is_port_value(value: &Value) -> bool
+    ensures { IsTrue result ↔ IsPortValue value.now }
 {
     match value.rows() {
-        [number] => i128::from(i32::MIN) <= *number && *number <= i128::from(i32::MAX),
+        [number] => Scalar::I32.holds(*number),
         _ => false,
     }
 }

@@ -1,8 +1,9 @@
 //! Numbers of a trace: decimal, without a needless zero or plus.
 
-ghost use Rattle.std.specs.Prelude.{◌≡◌, ◌↔◌, ◌<◌, ◌^◌, ℕ, ℤ, Some, IfSome, IsTrue, FitsSigned, length, slice_index};
-ghost use Rattle.std.specs.Int.{w32};
+ghost use Rattle.std.specs.Prelude.{◌≡◌, ◌↔◌, ◌<◌, ◌^◌, ℕ, ℤ, Some, IfSome, IsTrue, length, slice_index};
 ghost use Rattle.std.specs.Fmt.{decimal, signed_decimal};
+ghost use Rattle.hw_types.specs.Value.{IsScalarValue};
+ghost use Rattle.hw_types.specs.declared.scalar.Scalar.TheVariants.{I32};
 ghost use Rattle.hamr_tool.specs.TraceNumber.{number_from};
 
 use crate::trace::words::behind;
@@ -49,9 +50,9 @@ pub fn number_of(word: &[u8]) -> Option<u64>
 
 /// The Integer_32 that a word writes.
 pub fn integer_of(word: &[u8]) -> Option<i128>
-    ensures fits { IfSome result (FitsSigned w32) }
+    ensures fits { IfSome result (IsScalarValue I32) }
     ensures found { IfSome result (λ z. word.now ≡ signed_decimal z) }
-    ensures only { (z : ℤ) → FitsSigned w32 z → word.now ≡ signed_decimal z → result ≡ Some z }
+    ensures only { (z : ℤ) → IsScalarValue I32 z → word.now ≡ signed_decimal z → result ≡ Some z }
 {
     match behind(word, b'-') {
         Some(digits) => {

@@ -1,7 +1,7 @@
 //! The values of a trace.
 
 ghost use Rattle.std.specs.Prelude.{◌≡◌, ◌≤◌, ◌++◌, ◌∷◌, [], ℕ, ℤ, List, IfOk, IfSome, IsSomeAnd, MatchResult, All};
-ghost use Rattle.arch_model.specs.Value.{IsInteger32};
+ghost use Rattle.arch_model.specs.PortType.{IsPortValue};
 ghost use Rattle.hamr_tool.specs.TraceFault.{IsMemory};
 ghost use Rattle.hamr_tool.specs.TraceText.{value_text, values_text, list_text};
 ghost use Rattle.hamr_tool.specs.TraceWord.{EndsWord};
@@ -23,9 +23,9 @@ fn behind_comma(bytes: &[u8]) -> Option<&[u8]>
 
 /// The Integer_32 in front.
 pub fn read_value(alloc: Global, bytes: &[u8]) -> Result<(Value, &[u8]), LineFault>
-    ensures typed { IfOk result (λ r. IsInteger32 r.0) }
+    ensures typed { IfOk result (λ r. IsPortValue r.0) }
     ensures found { IfOk result (λ r. bytes.now ≡ value_text r.0 ++ r.1.now) }
-    ensures only { (value : List ℤ) (more : List ℕ) → IsInteger32 value → EndsWord more
+    ensures only { (value : List ℤ) (more : List ℕ) → IsPortValue value → EndsWord more
         → bytes.now ≡ value_text value ++ more
         → MatchResult result (λ r. (r.0 ≡ value) × (r.1.now ≡ more)) IsMemory }
 {
@@ -40,10 +40,10 @@ pub fn read_value(alloc: Global, bytes: &[u8]) -> Result<(Value, &[u8]), LineFau
 
 /// One value or more, up to the closing bracket.
 fn read_values(alloc: Global, bytes: &[u8]) -> Result<(ValueList, &[u8]), LineFault>
-    ensures typed { IfOk result (λ r. All IsInteger32 r.0) }
+    ensures typed { IfOk result (λ r. All IsPortValue r.0) }
     ensures found { IfOk result (λ r. bytes.now ≡ values_text r.0 ++ 93 ∷ r.1.now) }
     ensures only { (value : List ℤ) (values : List (List ℤ)) (more : List ℕ)
-        → All IsInteger32 (value ∷ values)
+        → All IsPortValue (value ∷ values)
         → bytes.now ≡ values_text (value ∷ values) ++ 93 ∷ more
         → MatchResult result (λ r. (r.0 ≡ value ∷ values) × (r.1.now ≡ more)) IsMemory }
 {
@@ -63,9 +63,9 @@ fn read_values(alloc: Global, bytes: &[u8]) -> Result<(ValueList, &[u8]), LineFa
 
 /// The values in brackets in front.
 pub fn read_list(alloc: Global, bytes: &[u8]) -> Result<(ValueList, &[u8]), LineFault>
-    ensures typed { IfOk result (λ r. All IsInteger32 r.0) }
+    ensures typed { IfOk result (λ r. All IsPortValue r.0) }
     ensures found { IfOk result (λ r. bytes.now ≡ list_text r.0 ++ r.1.now) }
-    ensures only { (values : List (List ℤ)) (more : List ℕ) → All IsInteger32 values
+    ensures only { (values : List (List ℤ)) (more : List ℕ) → All IsPortValue values
         → bytes.now ≡ list_text values ++ more
         → MatchResult result (λ r. (r.0 ≡ values) × (r.1.now ≡ more)) IsMemory }
 {

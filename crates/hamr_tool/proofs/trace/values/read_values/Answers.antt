@@ -1,7 +1,13 @@
 use Rattle.std.proofs.Common.{◌∙◌, ◌++◌, [], ◌∷◌, ap, rules}
 use Rattle.hamr_tool.specs.TraceFault.{IsMemory}
-use Rattle.hamr_tool.proofs.TraceLists.{reads-first, reads-more, no_value-behind, values-end}
+use Rattle.hamr_tool.proofs.TraceLists.{reads-first, reads-more, no_value-front, no_value-behind, values-end}
 use Rattle.hamr_tool.proofs.trace.values.read_values.Goals as goal
+
+pub returns-in_err-first-clause-only : goal.returns-in_err-first-clause-only
+returns-in_err-first-clause-only c = λ value values more all e.
+    let memory : IsMemory c.in_err-first.field-0.0 =
+    no_value-front _ (IsMemory c.in_err-first.field-0.0) c.in_err-first.ensures.only value values more all e in
+    search rules
 
 pub loop-after-init : goal.loop-after-init
 loop-after-init c =
