@@ -8,11 +8,18 @@ use Rattle.hamr_tool.specs.declared.files.Stop.TheVariants as stop
 use Rattle.hamr_tool.specs.Outside.{Seen}
 use Rattle.hamr_tool.specs.Stop.{OnStopped, IsOutsideAs}
 
-pub OnStopped-map : {X : Type 0} (answer : Result X Stop) (P Q : Report → Type 0) → ((report : Report) → P report → Q report) →
-    OnStopped answer P → OnStopped answer Q
-OnStopped-map (Ok x) P Q each held = tt
-OnStopped-map (Err (stop.Told report)) P Q each held = each report held
-OnStopped-map (Err stop.NoMemory) P Q each held = tt
+-- two facts of what is told make a third
+pub OnStopped-both : {X : Type 0} (answer : Result X Stop) (P R Q : Report → Type 0) → ((report : Report) → P report → R report → Q report) →
+    OnStopped answer P → OnStopped answer R → OnStopped answer Q
+OnStopped-both (Ok x) P R Q each one other = tt
+OnStopped-both (Err (stop.Told report)) P R Q each one other = each report one other
+OnStopped-both (Err stop.NoMemory) P R Q each one other = tt
+
+-- a fact of every report is one of what is told
+pub OnStopped-all : {X : Type 0} (answer : Result X Stop) (Q : Report → Type 0) → ((report : Report) → Q report) → OnStopped answer Q
+OnStopped-all (Ok x) Q each = tt
+OnStopped-all (Err (stop.Told report)) Q each = each report
+OnStopped-all (Err stop.NoMemory) Q each = tt
 
 -- what was seen from a later moment on was seen from an earlier one on
 pub record IsLater (s t : Seen) (file : List ℕ) : Type 0 where

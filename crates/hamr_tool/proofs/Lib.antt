@@ -5,6 +5,7 @@ pub mod Devices
 pub mod FeatureTrees
 pub mod Instances
 pub mod Judged
+pub mod LinkMembers
 pub mod LinkOrder
 pub mod Links
 pub mod MemberTrees

@@ -14,7 +14,8 @@ use Rattle.aadl_parse.specs.Refusals.{IsTextOf}
 use Rattle.hamr_tool.specs.Judge.{IsJudged, JudgeTells, AreAccepted, told_of}
 use Rattle.hamr_tool.specs.ModelFile.{OnModel, RefusesModel, TakesModel, HoldsPackage}
 use Rattle.hamr_tool.specs.Tidy.{IsTidied, tidied}
-use Rattle.hamr_tool.specs.Outside.{Seen, Serves}
+use Rattle.hamr_tool.specs.Order.{IsReached}
+use Rattle.hamr_tool.specs.Outside.{Seen, Names, Serves}
 
 -- the words are the row of one command
 row-one : (asked : List (List ℕ)) (one other : Command) → IsRow asked one → IsRow asked other → other ≡ one
@@ -38,17 +39,23 @@ content_output answer s asked out command whole content row serves = record {
 cause_at : (answer : Status) (s : Seen) (asked : List (List ℕ)) (out : Sent) (whole : IsWhole s asked out answer) → CausedAs answer s asked whole.report
 cause_at answer s asked out whole = subst (λ (k : Status). CausedAs k s asked whole.report) whole.answered whole.caused
 
+-- a file whose turn it was is one that the words name
+reached-named : (s : Seen) (command : Command) (file : List ℕ) → IsReached s command file → Names command file
+reached-named s (judge model trace) file (inl is) = (0, ap Some (sym is))
+reached-named s (judge model trace) file (inr reached) = (1, ap Some (sym reached.is_trace))
+reached-named s (tidy model) file is = (0, ap Some (sym is))
+
 not_absent : (s : Seen) (asked : List (List ℕ)) (report : Report) (command : Command) → IsRow asked command → Serves s command → IsForAbsence s asked report → ⊥
 not_absent s asked report command row serves absence =
     let same = row-one asked absence.command command absence.row row in
-    let held = serves.held absence.file (rw same absence.named) in
+    let held = serves.held absence.file (rw same (reached-named s absence.command absence.file absence.reached)) in
     let none : IsSome {T = List ℕ} None = subst (λ (o : Option (List ℕ)). IsSome o) (absence.was_absent.missing serves.told) held in
     cc
 
 not_failed : (s : Seen) (asked : List (List ℕ)) (report : Report) (command : Command) → IsRow asked command → Serves s command → IsForFault s asked report → ⊥
 not_failed s asked report command row serves failed =
     let same = row-one asked failed.command command failed.row row in
-    serves.unfailing failed.file (rw same failed.named) failed.rose
+    serves.unfailing failed.file (rw same (reached-named s failed.command failed.file failed.reached)) failed.rose
 
 pub answer_complete : (answer : Status) (s : Seen) (asked : List (List ℕ)) (out : Sent) (command : Command) → IsAnswer s asked out answer →
     IsRow asked command → Serves s command → (SinkFailed out → ⊥) → OrNoMemory answer (IsOutput s.held command out answer)

@@ -7,7 +7,8 @@ use Rattle.hamr_tool.specs.declared.status.Status.TheVariants as status
 use Rattle.hamr_tool.specs.declared.report.Report.{Report}
 use Rattle.hamr_tool.specs.Cause.{report_of, words, absent, read_fault}
 use Rattle.hamr_tool.specs.Command.{Command, judge, tidy, IsRow, IsNoRow}
-use Rattle.hamr_tool.specs.Outside.{Seen, WasAbsent, FaultRose, Names}
+use Rattle.hamr_tool.specs.Order.{IsReached}
+use Rattle.hamr_tool.specs.Outside.{Seen, WasAbsent, FaultRose}
 use Rattle.aadl_tree.specs.declared.package.Package.{Package}
 use Rattle.hamr_tool.specs.Judge.{JudgeTells, AreAccepted}
 use Rattle.hamr_tool.specs.ModelFile.{OnModel, HoldsPackage}
@@ -38,21 +39,21 @@ pub record IsForContent (s : Seen) (asked : List (List ℕ)) (report : Report) :
   pub row : IsRow asked command
   pub gives : s.tells ≡ true → Gives s.held command report
 
--- a file that the words name was not there
+-- a file that the words name, and whose turn it was, was not there
 pub record IsForAbsence (s : Seen) (asked : List (List ℕ)) (report : Report) : Type 0 where
   pub command : Command
   pub row : IsRow asked command
   pub file : List ℕ
-  pub named : Names command file
+  pub reached : IsReached s command file
   pub was_absent : WasAbsent s file
   pub told : report ≡ report_of (absent file)
 
--- a file that the words name could not be read
+-- a file that the words name, and whose turn it was, could not be read
 pub record IsForFault (s : Seen) (asked : List (List ℕ)) (report : Report) : Type 0 where
   pub command : Command
   pub row : IsRow asked command
   pub file : List ℕ
-  pub named : Names command file
+  pub reached : IsReached s command file
   pub rose : FaultRose s file
   pub told : report ≡ report_of (read_fault file)
 

@@ -7,6 +7,7 @@ pub mod Judge
 pub mod Model
 pub mod ModelFile
 pub mod Names
+pub mod Order
 pub mod Outside
 pub mod Package
 pub mod Parts

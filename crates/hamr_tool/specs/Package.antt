@@ -97,3 +97,7 @@ pub record IsThinPackage (p : Package) (arch : ArchParts) : Type 0 where
   pub tree : IsTree p model
   pub thin : IsThinModel model
   pub instance : arch ≡ instance_of model
+
+-- the package is that of a thin model
+abbrev pub IsThin : Package → Type 0
+IsThin p = (arch : ArchParts) × IsThinPackage p arch

@@ -7,7 +7,8 @@ use Rattle.hamr_tool.specs.declared.status.Status.{Status}
 use Rattle.hamr_tool.specs.declared.status.Status.TheVariants as status
 use Rattle.hamr_tool.specs.Cause.{report_of, absent, read_fault}
 use Rattle.hamr_tool.specs.Command.{Command}
-use Rattle.hamr_tool.specs.Outside.{Seen, WasAbsent, FaultRose, Names}
+use Rattle.hamr_tool.specs.Order.{IsReached}
+use Rattle.hamr_tool.specs.Outside.{Seen, WasAbsent, FaultRose}
 
 -- P holds of what is told in the place of a result
 abbrev pub OnStopped : {X : Type 0} → Result X Stop → (Report → Type 0) → Type 0
@@ -39,8 +40,8 @@ IsOutsideAs status.NoMemory s file report = ⊥
 abbrev pub IsOutside : Seen → List ℕ → Report → Type 0
 IsOutside s file report = IsOutsideAs report.status s file report
 
--- a file of the command was absent or could not be read, and that is told
+-- a file of the command, whose turn it was, was absent or could not be read, and that is told
 pub record IsStopped (s : Seen) (command : Command) (report : Report) : Type 0 where
   pub file : List ℕ
-  pub named : Names command file
+  pub reached : IsReached s command file
   pub outside : IsOutside s file report

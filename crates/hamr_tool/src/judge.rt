@@ -4,6 +4,7 @@ ghost use Rattle.std.specs.Prelude.{◌≡◌, List, ℕ, Some, true, IfOk};
 ghost use Rattle.hw_io.specs.Count.{NeverFalls};
 ghost use Rattle.hamr_tool.specs.Judge.{IsJudged, IsJudgedFile, IsJudgedTrace, UnreadAs};
 ghost use Rattle.hamr_tool.specs.Outside.{seen};
+ghost use Rattle.hamr_tool.specs.Package.{IsThin};
 ghost use Rattle.hamr_tool.specs.Stop.{OnStopped, IsOutside};
 
 use crate::files::{Stop, read_file};
@@ -27,6 +28,7 @@ pub fn judge<S: Store>(
 ) -> Result<Judgement, Stop>
     ensures judged { IfOk result (λ found. S.tells store.old ≡ true → IsJudged (S.held store.old) tree.now trace.now found) }
     ensures stopped { OnStopped result (λ report. IsOutside (seen S.tells S.held S.read_faults S.absences store.old store.new) trace.now report) }
+    ensures thin { OnStopped result (λ report. IsThin tree.now) }
     ensures tells { S.tells store.new ≡ S.tells store.old }
     ensures kept { (name : List ℕ) → S.held store.new name ≡ S.held store.old name }
     ensures read_faults { NeverFalls (S.read_faults store.old) (S.read_faults store.new) }

@@ -6,6 +6,7 @@ ghost use Rattle.hamr_tool.specs.Command.{judge as asked_judge, tidy as asked_ti
 ghost use Rattle.hamr_tool.specs.Judge.{JudgeTells};
 ghost use Rattle.hamr_tool.specs.ModelFile.{OnModel};
 ghost use Rattle.hamr_tool.specs.Outside.{seen};
+ghost use Rattle.hamr_tool.specs.Package.{IsThin};
 ghost use Rattle.hamr_tool.specs.Stop.{OnStopped, IsOutside, IsStopped};
 ghost use Rattle.hamr_tool.specs.Tidy.{IsTidied};
 
@@ -49,6 +50,7 @@ fn judge_model<S: Store>(
     ensures content { IfOk result (λ report. IsOfContent report.status) }
     ensures given { IfOk result (λ report. S.tells store.old ≡ true → JudgeTells (S.held store.old) model.now trace.now tree.now report) }
     ensures stopped { OnStopped result (λ report. IsOutside (seen S.tells S.held S.read_faults S.absences store.old store.new) trace.now report) }
+    ensures thin { OnStopped result (λ report. IsThin tree.now) }
     ensures kept { (name : List ℕ) → S.held store.new name ≡ S.held store.old name }
 {
     let found = judge(alloc, store, tree, trace)?;

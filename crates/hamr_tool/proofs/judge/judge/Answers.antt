@@ -1,5 +1,7 @@
 use Rattle.std.proofs.Common.{◌≡◌, true, sym, ◌∙◌}
 use Rattle.hamr_tool.specs.Judge.{IsJudgedFile, IsJudged}
+use Rattle.hamr_tool.specs.Package.{IsThin}
+use Rattle.hamr_tool.proofs.Causes.{OnStopped-all}
 use Rattle.hamr_tool.proofs.Judged.{IfOk-map, judged-by}
 use Rattle.hamr_tool.proofs.judge.judge.Goals as goal
 
@@ -27,3 +29,8 @@ returns-in-Some-clause-judged g c =
           cc;
       judged = judged told;
     })) c.judge_by.ensures.judged
+
+pub returns-in-Some-clause-thin : goal.returns-in-Some-clause-thin
+returns-in-Some-clause-thin g c =
+    let thin = rw c.in-Some.is at c.in_ok-arch.ensures.found in
+    OnStopped-all c.judge_by.result (λ report. IsThin c.args.tree.now) (λ report. (c.in-Some.arch, thin))

@@ -5,7 +5,8 @@ use Rattle.hamr_tool.specs.Outside.{seen}
 use Rattle.hamr_tool.specs.Stop.{IsOutside, IsStopped}
 use Rattle.hamr_tool.specs.Judge.{JudgeTells}
 use Rattle.hamr_tool.specs.ModelFile.{OnModel}
-use Rattle.hamr_tool.proofs.Causes.{OnStopped-map, outside-earlier}
+use Rattle.hamr_tool.specs.Package.{IsThin}
+use Rattle.hamr_tool.proofs.Causes.{OnStopped-both, outside-earlier}
 use Rattle.hamr_tool.proofs.Judged.{report-map, tells-earlier}
 use Rattle.hamr_tool.proofs.outputs.run_judge.Goals as goal
 
@@ -13,10 +14,21 @@ pub returns-in-Package-clause-stopped : goal.returns-in-Package-clause-stopped
 returns-in-Package-clause-stopped g c =
     let between = seen g.S.Store.tells g.S.Store.held g.S.Store.read_faults g.S.Store.absences c.read_model.new.store c.judge_model.new.store in
     let whole = seen g.S.Store.tells g.S.Store.held g.S.Store.read_faults g.S.Store.absences c.args.store.now c.judge_model.new.store in
-    OnStopped-map c.judge_model.result (λ report. IsOutside between c.args.trace.now report) (λ report. IsStopped whole (judge c.args.model.now c.args.trace.now) report)
-    (λ report out. record {
+    let tree = c.in-Package.tree in
+    OnStopped-both c.judge_model.result (λ report. IsOutside between c.args.trace.now report) (λ report. IsThin tree)
+    (λ report. IsStopped whole (judge c.args.model.now c.args.trace.now) report)
+    (λ report out thin. record {
       file = c.args.trace.now;
-      named = (1, refl);
+      reached = inr (record {
+        is_trace = refl;
+        thin_before = λ tells.
+            let file = rw c.in-Package.is at (c.in_ok-tree.ensures.text tells) in
+            record {
+              tree = tree;
+              is_model = record { bytes = file.bytes; model_held = file.model_held; is_text = file.is_text.text };
+              is_thin = thin;
+            };
+      });
       outside = outside-earlier report.status between whole c.args.trace.now report (record {
         tells = c.read_model.ensures.tells;
         held = c.read_model.ensures.kept c.args.trace.now;
@@ -25,7 +37,7 @@ returns-in-Package-clause-stopped g c =
         absences = c.read_model.ensures.absences c.args.trace.now;
         absences_after = refl;
       }) out;
-    }) c.judge_model.ensures.stopped
+    }) c.judge_model.ensures.stopped c.judge_model.ensures.thin
 
 pub returns-in-Package-clause-given : goal.returns-in-Package-clause-given
 returns-in-Package-clause-given g c =
