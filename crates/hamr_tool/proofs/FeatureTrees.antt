@@ -1,8 +1,8 @@
 -- What the ports of a package say is what their trees are.
-use Rattle.std.proofs.Common.{◌≡◌, ◌<◌, ◌^◌, ℕ, true, false, cond, not, ◌&&◌, ◌==◌, List, [], ◌∷◌, length, Option, Some, None, Bool, sym, ap, ◌∙◌, refl, subst, codes, arith}
+use Rattle.std.proofs.Common.{◌≡◌, ◌<◌, ◌^◌, ℕ, true, false, cond, not, ◌&&◌, ◌==◌, List, [], ◌∷◌, length, Option, Some, None, ap, ◌∙◌, refl, subst, codes}
 use Rattle.std.specs.Prelude.{nat_lt, is_none}
 use Rattle.std.specs.Option.{option_map, option_and_then}
-use Rattle.std.proofs.lemmas.Bool.{and_parts, and_from, not-true, not_from_false, false≢true}
+use Rattle.std.proofs.lemmas.Bool.{and_parts, and_from, not-true, false≢true}
 use Rattle.std.proofs.lemmas.Bool.Decides.{Decides-ltb}
 use Rattle.std.proofs.lemmas.Option.{option_and_then_some, none-some, same_Some, cond_some}
 use Rattle.hw_text.specs.declared.place.Place.{Place}
@@ -29,7 +29,7 @@ use Rattle.hamr_tool.specs.declared.thin.feature.Way.TheVariants as way
 use Rattle.hamr_tool.specs.declared.thin.feature.Feature.{Feature as ThinFeature}
 use Rattle.hamr_tool.specs.Parts.{alone, is_word, is_thin_port, integer_in, quantity_in, size_in, is_set, is_plain, queue_size_of, queue_of, way_of, feature_of}
 use Rattle.hamr_tool.specs.Tree.{IsQueueSize, direction_of, IsOwn, IsFeature}
-use Rattle.hamr_tool.proofs.PartTrees.{alone-is, option_map_some, if_some, some_if, empty-is, is-empty, none-is, is-none, word-is, is-word}
+use Rattle.hamr_tool.proofs.PartTrees.{alone-is, option_map_some, if_some, some_if, empty-is, is-empty, none-is, word-is, is-word}
 
 -- base_types::integer_32
 port-is : (k : PortKind) → is_thin_port k ≡ true → (place : Place) × (k ≡ kind.EventData (class.Base place base.Integer32))

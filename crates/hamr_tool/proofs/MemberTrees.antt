@@ -1,9 +1,9 @@
 -- What the devices, subcomponents and connections of a package say is what their trees are.
-use Rattle.std.proofs.Common.{◌≡◌, ℕ, true, false, cond, ◌&&◌, ◌==◌, List, [], ◌∷◌, length, Option, Some, None, sym, ap, ◌∙◌, refl, subst}
+use Rattle.std.proofs.Common.{◌≡◌, ℕ, true, cond, ◌&&◌, ◌==◌, List, length, Some, None, ap, ◌∙◌, refl, subst}
 use Rattle.std.specs.Prelude.{is_none}
 use Rattle.std.specs.Option.{option_map, option_and_then}
 use Rattle.std.proofs.lemmas.Bool.{and_parts, and_from, false≢true}
-use Rattle.std.proofs.lemmas.Option.{option_and_then_some, none-some, same_Some, cond_some}
+use Rattle.std.proofs.lemmas.Option.{option_and_then_some, none-some, cond_some}
 use Rattle.aadl_tree.specs.declared.category.Category.{Category}
 use Rattle.aadl_tree.specs.declared.category.Category.TheVariants as category
 use Rattle.aadl_tree.specs.declared.class.Class.{Class}
@@ -18,7 +18,7 @@ use Rattle.hamr_tool.specs.declared.thin.subcomponent.Subcomponent.{Subcomponent
 use Rattle.hamr_tool.specs.declared.thin.connection.Tip.{Tip}
 use Rattle.hamr_tool.specs.declared.thin.connection.Connection.{Connection as ThinConnection}
 use Rattle.hamr_tool.specs.Parts.{alone, all_of, is_device, is_bare_device, feature_of, device_of, type_name, subcomponent_of, tip_of, connection_of}
-use Rattle.hamr_tool.specs.Tree.{Each, IsFeature, IsDevice, IsTypeName, IsSubcomponent, IsTip, IsConnection}
+use Rattle.hamr_tool.specs.Tree.{IsFeature, IsDevice, IsTypeName, IsSubcomponent, IsTip, IsConnection}
 use Rattle.hamr_tool.proofs.PartTrees.{alone-is, is-alone, option_map_some, if_some, some_if, empty-is, is-empty, none-is, is-none, all-each, each-all}
 use Rattle.hamr_tool.proofs.FeatureTrees.{feature-is, is-feature}
 

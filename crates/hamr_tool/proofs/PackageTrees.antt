@@ -1,30 +1,24 @@
 -- What a package says is what its tree is.
-use Rattle.std.proofs.Common.{◌≡◌, ℕ, ◌+◌, ◌-◌, true, false, cond, ◌&&◌, ◌==◌, List, [], ◌∷◌, ◌++◌, length, length-append, take, drop, map, Option, Some, None, sym, ap, ◌∙◌, refl, subst, arith}
-use Rattle.std.specs.Prelude.{codes}
-use Rattle.std.specs.Option.{option_map, option_and_then}
-use Rattle.std.proofs.lemmas.Bool.{and_parts, and_from, false≢true}
+use Rattle.std.proofs.Common.{◌≡◌, ℕ, ◌-◌, cond, List, [], ◌∷◌, ◌++◌, length, length-append, take, drop, Some, None, sym, ap, ◌∙◌, refl, subst, arith}
+use Rattle.std.specs.Option.{option_and_then}
 use Rattle.std.proofs.lemmas.List.{take-append-drop}
-use Rattle.std.proofs.lemmas.List.{length-map}
 use lib.Seq.{take-append_seam, drop-append_seam}
-use Rattle.std.proofs.lemmas.Option.{option_and_then_some, none-some, same_Some, cond_some}
-use Rattle.aadl_tree.specs.declared.category.Category.{Category}
-use Rattle.aadl_tree.specs.declared.category.Category.TheVariants as category
+use Rattle.std.proofs.lemmas.Option.{option_and_then_some, same_Some}
 use Rattle.aadl_tree.specs.declared.component.ComponentType.{ComponentType}
 use Rattle.aadl_tree.specs.declared.component.Implementation.{Implementation}
 use Rattle.aadl_tree.specs.declared.package.Declaration.{Declaration}
-use Rattle.aadl_tree.specs.declared.package.Declaration.TheVariants as declaration
 use Rattle.aadl_tree.specs.declared.package.Import.{Import}
 use Rattle.aadl_tree.specs.declared.package.Package.{Package}
 use Rattle.hamr_tool.specs.declared.thin.device.Device.{Device}
 use Rattle.hamr_tool.specs.declared.thin.subcomponent.Subcomponent.{Subcomponent as ThinSubcomponent}
 use Rattle.hamr_tool.specs.declared.thin.connection.Connection.{Connection as ThinConnection}
 use Rattle.hamr_tool.specs.declared.thin.model.ThinModel.{ThinModel}
-use Rattle.hamr_tool.specs.Parts.{all_of, plain_name, is_word, device_of, subcomponent_of, connection_of}
-use Rattle.hamr_tool.specs.Package.{is_system, imports_base, device_in, is_thin_system, system_of, system_in, system_place, implementation_name_of, heading_of, model_with, declared_model, model_of}
-use Rattle.hamr_tool.specs.Tree.{Each, IsDevice, IsSubcomponent, IsConnection, IsImplementationName, IsBaseImport, IsSystem, IsImplementation, IsTree}
-use Rattle.hamr_tool.proofs.PartTrees.{option_map_some, if_some, some_if, empty-is, is-empty, all-each, each-all, plain_name-is, is-plain_name, word-is, is-word}
-use Rattle.hamr_tool.proofs.MemberTrees.{device-is, is-device, subcomponent-is, is-subcomponent, connection-is, is-connection}
-use Rattle.hamr_tool.proofs.DeclarationTrees.{import-is, is-import, typed, devices-are, are-devices, pair, system-are, BareSystem, bare-is, is-bare}
+use Rattle.hamr_tool.specs.Parts.{all_of, plain_name, subcomponent_of, connection_of}
+use Rattle.hamr_tool.specs.Package.{imports_base, device_in, is_thin_system, system_in, system_place, implementation_name_of, heading_of, model_with, declared_model, model_of}
+use Rattle.hamr_tool.specs.Tree.{Each, IsSubcomponent, IsConnection, IsBaseImport, IsSystem, IsImplementation, IsTree}
+use Rattle.hamr_tool.proofs.PartTrees.{if_some, some_if, all-each, each-all, plain_name-is, is-plain_name}
+use Rattle.hamr_tool.proofs.MemberTrees.{subcomponent-is, is-subcomponent, connection-is, is-connection}
+use Rattle.hamr_tool.proofs.DeclarationTrees.{import-is, is-import, typed, devices-are, are-devices, pair, system-are, bare-is, is-bare}
 
 -- a model of these parts
 abbrev made : List ℕ → List ℕ → List Device → ComponentType × Implementation → List ThinSubcomponent → List ThinConnection → ThinModel

@@ -12,8 +12,7 @@ use Rattle.aadl_tree.specs.declared.package.Package.{Package}
 use Rattle.aadl_parse.specs.Grammar.{SpellsPackage}
 use Rattle.aadl_parse.specs.Refusals.{IsTextOf}
 use Rattle.hamr_tool.specs.Judge.{IsJudged, JudgeTells, AreAccepted, told_of}
-use Rattle.hamr_tool.specs.ModelFile.{OnModel, RefusesModel, TakesModel, HoldsPackage}
-use Rattle.hamr_tool.specs.Tidy.{IsTidied, tidied}
+use Rattle.hamr_tool.specs.ModelFile.{RefusesModel, TakesModel, HoldsPackage}
 use Rattle.hamr_tool.specs.Order.{IsReached}
 use Rattle.hamr_tool.specs.Outside.{Seen, Names, Serves}
 

@@ -1,11 +1,11 @@
 -- Thin models: what is asked of a model of connected devices beyond its form (this project's own, a part of SAE AS5506;
 -- docs/formats/model.md).
-use Rattle.std.specs.Prelude.{◌≡◌, ◌≢◌, ◌≤◌, ℕ, true, List, ◌∷◌, ◌++◌, map, length, All, AllPairs, IsSome}
+use Rattle.std.specs.Prelude.{◌≡◌, ◌≢◌, ◌≤◌, true, ◌∷◌, ◌++◌, map, length, All, AllPairs, IsSome}
 use Rattle.hamr_tool.specs.declared.thin.feature.Feature.{Feature}
 use Rattle.hamr_tool.specs.declared.thin.device.Device.{Device}
 use Rattle.hamr_tool.specs.declared.thin.model.ThinModel.{ThinModel}
 use Rattle.hamr_tool.specs.Names.{Differ}
-use Rattle.hamr_tool.specs.Instance.{size_of, is_declared, link_of, domains_of, ports_of, links_named, instance_of}
+use Rattle.hamr_tool.specs.Instance.{size_of, is_declared, link_of, domains_of, ports_of, links_named}
 
 -- each name after an `end` repeats its opening, and the implementation is of the declared system
 pub record HasMatchingEnds (m : ThinModel) : Type 0 where

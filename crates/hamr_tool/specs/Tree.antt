@@ -8,7 +8,6 @@ use Rattle.aadl_tree.specs.declared.category.Category.TheVariants as category
 use Rattle.aadl_tree.specs.declared.class.BaseType.TheVariants as base
 use Rattle.aadl_tree.specs.declared.class.Class.{Class}
 use Rattle.aadl_tree.specs.declared.class.Class.TheVariants as class
-use Rattle.aadl_tree.specs.declared.class.ModelClass.{ModelClass}
 use Rattle.aadl_tree.specs.declared.component.ComponentType.{ComponentType}
 use Rattle.aadl_tree.specs.declared.component.Implementation.{Implementation}
 use Rattle.aadl_tree.specs.declared.connection.Connection.{Connection}
@@ -16,7 +15,6 @@ use Rattle.aadl_tree.specs.declared.connection.ConnectionEnd.{ConnectionEnd}
 use Rattle.aadl_tree.specs.declared.feature.Direction.{Direction}
 use Rattle.aadl_tree.specs.declared.feature.Direction.TheVariants as direction
 use Rattle.aadl_tree.specs.declared.feature.Feature.{Feature}
-use Rattle.aadl_tree.specs.declared.feature.PortKind.{PortKind}
 use Rattle.aadl_tree.specs.declared.feature.PortKind.TheVariants as kind
 use Rattle.aadl_tree.specs.declared.names.ImplementationName.{ImplementationName}
 use Rattle.aadl_tree.specs.declared.names.QualifiedName.{QualifiedName}

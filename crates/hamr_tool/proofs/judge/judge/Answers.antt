@@ -1,4 +1,4 @@
-use Rattle.std.proofs.Common.{◌≡◌, true, sym, ◌∙◌}
+use Rattle.std.proofs.Common.{◌≡◌, true}
 use Rattle.hamr_tool.specs.Judge.{IsJudgedFile, IsJudged}
 use Rattle.hamr_tool.specs.Package.{IsThin}
 use Rattle.hamr_tool.proofs.Causes.{OnStopped-all}

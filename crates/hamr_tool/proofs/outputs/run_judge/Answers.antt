@@ -1,5 +1,4 @@
-use Rattle.std.proofs.Common.{◌≡◌, true, refl, sym, ◌∙◌, ap, subst, inr, ℕ, List}
-use Rattle.hamr_tool.specs.declared.report.Report.{Report}
+use Rattle.std.proofs.Common.{◌≡◌, true, refl, ◌∙◌, inr}
 use Rattle.hamr_tool.specs.Command.{judge}
 use Rattle.hamr_tool.specs.Outside.{seen}
 use Rattle.hamr_tool.specs.Stop.{IsOutside, IsStopped}
