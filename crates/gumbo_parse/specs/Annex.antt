@@ -1,70 +1,97 @@
 -- The grammar of contracts, and their canonical text (this project's own; docs/formats/contracts.md).
-use Rattle.std.specs.Prelude.{◌≡◌, ℕ, false, List, [], ◌∷◌, ◌++◌, codes, Option, Some, None, ◌⊎◌}
+use Rattle.std.specs.Prelude.{ℕ, false, List, [], ◌∷◌, ◌++◌, codes, Option, Some, None, ⊤}
 use Rattle.std.specs.List.{flat_map}
 use Rattle.hw_text.specs.declared.place.Place.{Place}
-use Rattle.hw_text.specs.declared.placed.Placed.{Placed}
-use Rattle.gumbo_parse.specs.declared.token.Token.{Token}
-use Rattle.gumbo_parse.specs.declared.token.Token.TheVariants as token
-use Rattle.gumbo_parse.specs.declared.word.Word.{Word}
-use Rattle.gumbo_parse.specs.declared.word.Word.TheVariants as word
-use Rattle.gumbo_parse.specs.declared.mark.Mark.TheVariants as mark
+use Rattle.hw_text.specs.Language.{One, ◌⋅◌, Maybe, Each, Made}
+use Rattle.gumbo_parse.specs.declared.class.Variable.{Variable}
 use Rattle.gumbo_parse.specs.declared.contract.ClauseKind.{ClauseKind}
 use Rattle.gumbo_parse.specs.declared.contract.ClauseKind.TheVariants.{Assume, Guarantee}
 use Rattle.gumbo_parse.specs.declared.contract.Clause.{Clause}
 use Rattle.gumbo_parse.specs.declared.contract.Handler.{Handler}
 use Rattle.gumbo_parse.specs.declared.contract.Compute.{Compute}
 use Rattle.gumbo_parse.specs.declared.contract.Contract.{Contract}
+use Rattle.gumbo_parse.specs.declared.expression.Expression.{Expression}
+use Rattle.gumbo_parse.specs.declared.expression.Named.{Named}
+use Rattle.gumbo_parse.specs.declared.mark.Mark.TheVariants as mark
+use Rattle.gumbo_parse.specs.declared.word.Word.{Word}
+use Rattle.gumbo_parse.specs.declared.word.Word.TheVariants as word
 use Rattle.gumbo_parse.specs.Classes.{SpellsVariable, variable_text}
-use Rattle.gumbo_parse.specs.Grammar.{Spells, sign, keyword, name_token, start_of}
+use Rattle.gumbo_parse.specs.Grammar.{Sign, Keyword, Name, SpellsStarted}
 use Rattle.gumbo_parse.specs.Printing.{expression_text}
+use Rattle.gumbo_parse.specs.Values.{Tokens, one_listed, text_of}
 use Rattle.gumbo_parse.specs.Words.{word_spelling}
 
 abbrev pub clause_word : ClauseKind → Word
 clause_word Assume = word.Assume
 clause_word Guarantee = word.Guarantee
 
--- { x }
-abbrev pub SpellsEach : {X : Type 0} → (X → List (Placed Token) → Type 0) → List X → List (Placed Token) → Type 0
-SpellsEach SpellsOne [] ts = ts ≡ []
-SpellsEach SpellsOne (x ∷ xs) ts = (us vs : List (Placed Token)) × (ts ≡ us ++ vs) × SpellsOne x us × SpellsEach SpellsOne xs vs
+abbrev pub kinds : List (List ℕ × ClauseKind)
+kinds = (codes "assume", Assume) ∷ (codes "guarantee", Guarantee) ∷ []
 
--- [ STRING ]
-abbrev pub SpellsDescription : Option (List ℕ) → List (Placed Token) → Type 0
-SpellsDescription None ts = ts ≡ []
-SpellsDescription (Some text) ts = (at : Place) × (ts ≡ record { token = token.Text text; place = at } ∷ [])
+abbrev pub ClauseParts : Type 0
+ClauseParts = (Place × ClauseKind) × (Named × (Option (List ℕ) × (Place × ((Place × Expression) × Place))))
+
+abbrev pub clause_of : ClauseParts → Clause
+clause_of p = record {
+  kind = p.0.1;
+  name = p.1.0;
+  description = p.1.1.0;
+  expression_place = p.1.1.1.1.0.0;
+  expression = p.1.1.1.1.0.1;
+}
 
 -- ( "assume" | "guarantee" ) NAME [ STRING ] ":" expr ";"
-abbrev pub SpellsClause : Clause → List (Placed Token) → Type 0
-SpellsClause c ts =
-    (k p q : Place) × (ds us : List (Placed Token)) ×
-    (ts ≡ keyword (clause_word c.kind) k ∷ name_token c.name ∷ ds ++ sign mark.Colon p ∷ us ++ sign mark.Semicolon q ∷ []) ×
-    SpellsDescription c.description ds × Spells 0 c.expression us × (c.expression_place ≡ start_of us)
+abbrev pub SpellsClause : Clause → Tokens → Type 0
+SpellsClause = Made clause_of (One (one_listed kinds) ⋅ Name ⋅ Maybe (One text_of) ⋅ Sign mark.Colon ⋅ SpellsStarted ⋅ Sign mark.Semicolon)
 
--- nothing for no member, and else the word and the members
-abbrev pub SpellsSection : {X : Type 0} → Word → (X → List (Placed Token) → Type 0) → List X → List (Placed Token) → Type 0
-SpellsSection w SpellsOne [] ts = ts ≡ []
-SpellsSection w SpellsOne (x ∷ xs) ts = (at : Place) × (us : List (Placed Token)) × (ts ≡ keyword w at ∷ us) × SpellsEach SpellsOne (x ∷ xs) us
+abbrev pub all_of : {X : Type 0} → X × List X → List X
+all_of p = p.0 ∷ p.1
+
+-- x { x }
+abbrev pub SpellsSome : {X : Type 0} → (X → Tokens → Type 0) → List X → Tokens → Type 0
+SpellsSome A = Made all_of (A ⋅ Each A)
+
+abbrev pub or_none : {V X : Type 0} → Option (V × List X) → List X
+or_none None = []
+or_none (Some p) = p.1
+
+-- [ word x { x } ]
+abbrev pub SpellsSection : {V X : Type 0} → (V → Tokens → Type 0) → (X → Tokens → Type 0) → List X → Tokens → Type 0
+SpellsSection W A = Made or_none (Maybe (W ⋅ SpellsSome A))
+
+abbrev pub SpellsState : List Variable → Tokens → Type 0
+SpellsState = SpellsSection (Keyword word.State) SpellsVariable
+
+abbrev pub SpellsIntegration : List Clause → Tokens → Type 0
+SpellsIntegration = SpellsSection (Keyword word.Integration) SpellsClause
+
+-- the two spellings of one word
+abbrev pub initial : List (List ℕ × ⊤)
+initial = (codes "initialize", tt) ∷ (codes "initialise", tt) ∷ []
+
+abbrev pub SpellsInitialize : List Clause → Tokens → Type 0
+SpellsInitialize = SpellsSection (One (one_listed initial)) SpellsClause
+
+abbrev pub handler_of : Place × (Named × (Place × (Clause × List Clause))) → Handler
+handler_of p = record { port = p.1.0; first = p.1.1.1.0; others = p.1.1.1.1 }
 
 -- "handle" NAME ":" clause { clause }
-abbrev pub SpellsHandler : Handler → List (Placed Token) → Type 0
-SpellsHandler h ts =
-    (at p : Place) × (us : List (Placed Token)) × (ts ≡ keyword word.Handle at ∷ name_token h.port ∷ sign mark.Colon p ∷ us) ×
-    SpellsEach SpellsClause (h.first ∷ h.others) us
+abbrev pub SpellsHandler : Handler → Tokens → Type 0
+SpellsHandler = Made handler_of (Keyword word.Handle ⋅ Name ⋅ Sign mark.Colon ⋅ SpellsClause ⋅ Each SpellsClause)
 
--- [ "compute" { clause } { handler } ]
-abbrev pub SpellsCompute : Option Compute → List (Placed Token) → Type 0
-SpellsCompute None ts = ts ≡ []
-SpellsCompute (Some c) ts =
-    (at : Place) × (us vs : List (Placed Token)) × (ts ≡ keyword word.Compute at ∷ us ++ vs) × SpellsEach SpellsClause c.clauses us ×
-    SpellsEach SpellsHandler c.handlers vs
+abbrev pub compute_of : Place × (List Clause × List Handler) → Compute
+compute_of p = record { clauses = p.1.0; handlers = p.1.1 }
 
--- the sections of a contract, each where it has something; `initialise` is another spelling
-abbrev pub SpellsContract : Contract → List (Placed Token) → Type 0
-SpellsContract c ts =
-    (ss is ns cs : List (Placed Token)) × (ts ≡ ss ++ is ++ ns ++ cs) × SpellsSection word.State SpellsVariable c.state ss ×
-    SpellsSection word.Integration SpellsClause c.integration is ×
-    (SpellsSection word.Initialize SpellsClause c.initialize ns ⊎ SpellsSection word.Initialise SpellsClause c.initialize ns) ×
-    SpellsCompute c.compute cs
+-- "compute" { clause } { handler }
+abbrev pub SpellsCompute : Compute → Tokens → Type 0
+SpellsCompute = Made compute_of (Keyword word.Compute ⋅ Each SpellsClause ⋅ Each SpellsHandler)
+
+abbrev pub contract_of : List Variable × (List Clause × (List Clause × Option Compute)) → Contract
+contract_of p = record { state = p.0; integration = p.1.0; initialize = p.1.1.0; compute = p.1.1.1 }
+
+-- the sections of a contract, each where it has something
+abbrev pub SpellsContract : Contract → Tokens → Type 0
+SpellsContract = Made contract_of (SpellsState ⋅ SpellsIntegration ⋅ SpellsInitialize ⋅ Maybe SpellsCompute)
 
 abbrev pub line : List ℕ → List ℕ
 line text = text ++ 10 ∷ []

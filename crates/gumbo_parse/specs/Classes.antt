@@ -1,54 +1,51 @@
 -- The types of state variables: their grammar and canonical text (this project's own; docs/formats/contracts.md).
-use Rattle.std.specs.Prelude.{◌≡◌, ℕ, false, List, [], ◌∷◌, ◌++◌, codes, Option, Some, None}
+use Rattle.std.specs.Prelude.{ℕ, List, [], ◌∷◌, ◌++◌, codes, Option, Some, None}
 use Rattle.std.specs.List.{flat_map}
-use Rattle.std.specs.Str.{bytes_eq}
 use Rattle.hw_text.specs.declared.place.Place.{Place}
-use Rattle.hw_text.specs.declared.placed.Placed.{Placed}
-use Rattle.gumbo_parse.specs.declared.token.Token.{Token}
-use Rattle.gumbo_parse.specs.declared.token.Token.TheVariants as token
-use Rattle.gumbo_parse.specs.declared.mark.Mark.TheVariants as mark
+use Rattle.hw_text.specs.Language.{One, ◌⋅◌, Maybe, Each, Made, ◌∣◌}
 use Rattle.gumbo_parse.specs.declared.class.BaseType.{BaseType}
-use Rattle.gumbo_parse.specs.declared.class.BaseType.TheVariants.{Boolean, Integer8, Integer16, Integer32, Integer64, Unsigned8, Unsigned16, Unsigned32, Unsigned64}
 use Rattle.gumbo_parse.specs.declared.class.Class.{Class}
 use Rattle.gumbo_parse.specs.declared.class.Class.TheVariants.{Base, Model}
 use Rattle.gumbo_parse.specs.declared.class.Variable.{Variable}
-use Rattle.gumbo_parse.specs.Grammar.{sign, name_token}
+use Rattle.gumbo_parse.specs.declared.expression.Named.{Named}
+use Rattle.gumbo_parse.specs.declared.mark.Mark.TheVariants as mark
+use Rattle.gumbo_parse.specs.Grammar.{Sign, Name}
+use Rattle.gumbo_parse.specs.Values.{Tokens, place_of, other_of, base_of, base_name}
 
-unfoldable pub base_name : BaseType → List ℕ
-base_name Boolean = codes "boolean"
-base_name Integer8 = codes "integer_8"
-base_name Integer16 = codes "integer_16"
-base_name Integer32 = codes "integer_32"
-base_name Integer64 = codes "integer_64"
-base_name Unsigned8 = codes "unsigned_8"
-base_name Unsigned16 = codes "unsigned_16"
-base_name Unsigned32 = codes "unsigned_32"
-base_name Unsigned64 = codes "unsigned_64"
+abbrev pub base_class : Place × (Place × BaseType) → Class
+base_class p = Base p.0 p.1.1
 
--- a name that stands somewhere
-abbrev pub name_at : List ℕ → Place → Placed Token
-name_at n at = record { token = token.Name n; place = at }
+-- "base_types" "::" BASE
+abbrev pub SpellsBase : Class → Tokens → Type 0
+SpellsBase = Made base_class (One (place_of (codes "base_types")) ⋅ Sign mark.DoubleColon ⋅ One base_of)
 
--- { "::" NAME }
-abbrev pub SpellsPath : List (List ℕ) → List (Placed Token) → Type 0
-SpellsPath [] ts = ts ≡ []
-SpellsPath (n ∷ ns) ts = (p q : Place) × (us : List (Placed Token)) × (ts ≡ sign mark.DoubleColon p ∷ name_at n q ∷ us) × SpellsPath ns us
+abbrev pub name_behind : Place × Named → List ℕ
+name_behind p = p.1.name
 
--- [ "." NAME ]
-abbrev pub SpellsImplementation : Option (List ℕ) → List (Placed Token) → Type 0
-SpellsImplementation None ts = ts ≡ []
-SpellsImplementation (Some n) ts = (p q : Place) × (ts ≡ sign mark.Dot p ∷ name_at n q ∷ [])
+-- "::" NAME
+abbrev pub SpellsStep : List ℕ → Tokens → Type 0
+SpellsStep = Made name_behind (Sign mark.DoubleColon ⋅ Name)
 
--- "base_types" "::" BASE, or NAME { "::" NAME } [ "." NAME ] whose first name is another
-abbrev pub SpellsClass : Class → List (Placed Token) → Type 0
-SpellsClass (Base at base) ts = (p q : Place) × (ts ≡ name_at (codes "base_types") at ∷ sign mark.DoubleColon p ∷ name_at (base_name base) q ∷ [])
-SpellsClass (Model m) ts =
-    (us vs : List (Placed Token)) × (ts ≡ name_token m.first ∷ us ++ vs) × (bytes_eq m.first.name (codes "base_types") ≡ false) ×
-    SpellsPath m.others us × SpellsImplementation m.implementation vs
+-- "." NAME
+abbrev pub SpellsImplementation : List ℕ → Tokens → Type 0
+SpellsImplementation = Made name_behind (Sign mark.Dot ⋅ Name)
+
+abbrev pub model_class : Named × (List (List ℕ) × Option (List ℕ)) → Class
+model_class p = Model (record { first = p.0; others = p.1.0; implementation = p.1.1 })
+
+-- NAME { "::" NAME } [ "." NAME ], whose first name is not `base_types`
+abbrev pub SpellsModel : Class → Tokens → Type 0
+SpellsModel = Made model_class (One other_of ⋅ Each SpellsStep ⋅ Maybe SpellsImplementation)
+
+abbrev pub SpellsClass : Class → Tokens → Type 0
+SpellsClass = SpellsBase ∣ SpellsModel
+
+abbrev pub variable_of : Named × (Place × (Class × Place)) → Variable
+variable_of p = record { name = p.0; class = p.1.1.0 }
 
 -- NAME ":" class ";"
-abbrev pub SpellsVariable : Variable → List (Placed Token) → Type 0
-SpellsVariable v ts = (p q : Place) × (us : List (Placed Token)) × (ts ≡ name_token v.name ∷ sign mark.Colon p ∷ us ++ sign mark.Semicolon q ∷ []) × SpellsClass v.class us
+abbrev pub SpellsVariable : Variable → Tokens → Type 0
+SpellsVariable = Made variable_of (Name ⋅ Sign mark.Colon ⋅ SpellsClass ⋅ Sign mark.Semicolon)
 
 abbrev pub behind_colons : List ℕ → List ℕ
 behind_colons n = codes "::" ++ n

@@ -1,12 +1,13 @@
 pub mod Annex
-pub mod AnnexReader
 pub mod Classes
+pub mod Flaws
 pub mod Grammar
+pub mod Levels
 pub mod Marks
 pub mod Operators
-pub mod Parsing
 pub mod Printing
-pub mod Reader
-pub mod Reading
+pub mod Refusals
 pub mod Tokens
+pub mod Values
+pub mod Whole
 pub mod Words

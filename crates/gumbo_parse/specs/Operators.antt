@@ -1,5 +1,5 @@
 -- The operators of expressions, and how tightly they bind (this project's own; docs/formats/contracts.md).
-use Rattle.std.specs.Prelude.{ℕ, List, codes, Option, Some, None}
+use Rattle.std.specs.Prelude.{ℕ, List, codes}
 use Rattle.gumbo_parse.specs.declared.operator.UnaryOperator.{UnaryOperator}
 use Rattle.gumbo_parse.specs.declared.operator.UnaryOperator.TheVariants.{Not, Minus}
 use Rattle.gumbo_parse.specs.declared.operator.BinaryOperator.{BinaryOperator}
@@ -8,12 +8,8 @@ use Rattle.gumbo_parse.specs.declared.operator.Quantifier.{Quantifier}
 use Rattle.gumbo_parse.specs.declared.operator.Quantifier.TheVariants.{ForAll, Exists}
 use Rattle.gumbo_parse.specs.declared.operator.PortTest.{PortTest}
 use Rattle.gumbo_parse.specs.declared.operator.PortTest.TheVariants as test
-use Rattle.gumbo_parse.specs.declared.token.Token.{Token}
-use Rattle.gumbo_parse.specs.declared.token.Token.TheVariants as token
 use Rattle.gumbo_parse.specs.declared.word.Word.{Word}
 use Rattle.gumbo_parse.specs.declared.word.Word.TheVariants as word
-use Rattle.gumbo_parse.specs.declared.mark.Mark.{Mark}
-use Rattle.gumbo_parse.specs.declared.mark.Mark.TheVariants as mark
 
 -- The levels, from the loosest: 0 implies, 1 or, 2 and, 3 not, 4 comparisons, 5 sums, 6 products, 7 minus, 8 what has no operator.
 
@@ -71,38 +67,6 @@ right_level Subtract = 6
 right_level Multiply = 7
 right_level Divide = 7
 right_level Remainder = 7
-
--- the operator that a token is before an operand
-abbrev pub unary_of : Token → Option UnaryOperator
-unary_of (token.Word word.Not) = Some Not
-unary_of (token.Mark mark.Bang) = Some Not
-unary_of (token.Mark mark.Minus) = Some Minus
-unary_of _ = None
-
-abbrev pub binary_of_mark : Mark → Option BinaryOperator
-binary_of_mark mark.Implication = Some Implies
-binary_of_mark mark.Bar = Some Or
-binary_of_mark mark.Ampersand = Some And
-binary_of_mark mark.Equal = Some Equal
-binary_of_mark mark.NotEqual = Some NotEqual
-binary_of_mark mark.Less = Some Less
-binary_of_mark mark.LessOrEqual = Some LessOrEqual
-binary_of_mark mark.Greater = Some Greater
-binary_of_mark mark.GreaterOrEqual = Some GreaterOrEqual
-binary_of_mark mark.Plus = Some Add
-binary_of_mark mark.Minus = Some Subtract
-binary_of_mark mark.Star = Some Multiply
-binary_of_mark mark.Slash = Some Divide
-binary_of_mark mark.Percent = Some Remainder
-binary_of_mark _ = None
-
--- the operator that a token is between two operands
-abbrev pub binary_of : Token → Option BinaryOperator
-binary_of (token.Word word.Implies) = Some Implies
-binary_of (token.Word word.Or) = Some Or
-binary_of (token.Word word.And) = Some And
-binary_of (token.Mark m) = binary_of_mark m
-binary_of _ = None
 
 -- as it is printed: a word where there is one
 abbrev pub binary_text : BinaryOperator → List ℕ

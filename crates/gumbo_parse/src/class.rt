@@ -1,7 +1,8 @@
 //! The types of state variables, as they are written.
 
 ghost use Rattle.std.specs.Prelude.{◌≡◌};
-ghost use Rattle.gumbo_parse.specs.Classes.{base_name, base_text};
+ghost use Rattle.gumbo_parse.specs.Classes.{base_text};
+ghost use Rattle.gumbo_parse.specs.Values.{base_name, base_among, all_bases};
 
 use crate::expression::Named;
 use crate::identifier::Identifier;
@@ -21,9 +22,39 @@ pub enum BaseType {
     Unsigned64,
 }
 
+static BASE_TYPES: [BaseType; 9] = [
+    BaseType::Boolean,
+    BaseType::Integer8,
+    BaseType::Integer16,
+    BaseType::Integer32,
+    BaseType::Integer64,
+    BaseType::Unsigned8,
+    BaseType::Unsigned16,
+    BaseType::Unsigned32,
+    BaseType::Unsigned64,
+];
+
 impl BaseType {
+    /// The type of this name.
+    pub fn named(name: &[u8]) -> Option<BaseType>
+        ensures { result ≡ base_among all_bases name.now }
+    {
+        BaseType::among(&BASE_TYPES, name)
+    }
+
+    /// The first of these types that has this name.
+    fn among(bases: &[BaseType], name: &[u8]) -> Option<BaseType>
+        ensures { result ≡ base_among bases.now name.now }
+    {
+        for &base in bases {
+            if name == base.name().as_bytes() {
+                return Some(base);
+            }
+        }
+        None
+    }
+
     /// The name behind `base_types::`.
-    #[tactic(auto, unfolding(crate::specs::Classes::base_name))]
     pub fn name(self) -> &'static str
         ensures { result.now ≡ base_name self }
     {
@@ -41,7 +72,7 @@ impl BaseType {
     }
 
     /// The type as it is written.
-    #[tactic(auto, unfolding(crate::specs::Classes::base_name, crate::specs::Classes::base_text))]
+    #[tactic(auto, unfolding(crate::specs::Classes::base_text))]
     pub fn text(self) -> &'static str
         ensures { result.now ≡ base_text self }
     {

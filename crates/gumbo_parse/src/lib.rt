@@ -2,26 +2,37 @@
 #![tactic(auto)]
 
 mod annex;
-mod annex_reader;
+mod bounds;
 mod class;
-mod class_reader;
-mod clause_reader;
+mod classes;
+mod clauses;
 mod contract;
 mod description;
 mod expression;
+mod flaw;
 mod identifier;
 mod integer;
+mod leaf;
+mod leaves;
+mod level;
+mod levels;
 mod lexer;
 mod mark;
-mod operand;
+mod operands;
+mod operation;
 mod operator;
+mod operators;
 mod parse;
-mod primary;
+mod ports;
 mod print;
-mod reader;
-mod reading;
-mod stop;
+mod quantification;
+mod refusals;
+mod sections;
+mod symbols;
+mod table;
+mod terminals;
 mod token;
+mod whole;
 mod word;
 
 pub use annex::print_annex;

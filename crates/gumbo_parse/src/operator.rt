@@ -1,10 +1,8 @@
 //! The operators of expressions, and how tightly they bind.
 
 ghost use Rattle.std.specs.Prelude.{◌≡◌, ◌≤◌};
-ghost use Rattle.gumbo_parse.specs.Operators.{unary_level, binary_level, left_level, right_level, unary_of, binary_of, binary_of_mark, binary_text, quantifier_word, test_word};
+ghost use Rattle.gumbo_parse.specs.Operators.{unary_level, binary_level, left_level, right_level, binary_text, quantifier_word, test_word};
 
-use crate::mark::Mark;
-use crate::token::Token;
 use crate::word::Word;
 
 /// An operator with one operand.
@@ -56,17 +54,6 @@ impl UnaryOperator {
         match self {
             UnaryOperator::Not => 3,
             UnaryOperator::Minus => 7,
-        }
-    }
-
-    /// The operator that the token is before an operand.
-    pub fn of(token: &Token) -> Option<UnaryOperator>
-        ensures { result ≡ unary_of token.now }
-    {
-        match token {
-            Token::Word(Word::Not) | Token::Mark(Mark::Bang) => Some(UnaryOperator::Not),
-            Token::Mark(Mark::Minus) => Some(UnaryOperator::Minus),
-            _ => None,
         }
     }
 }
@@ -129,41 +116,6 @@ impl BinaryOperator {
             | BinaryOperator::GreaterOrEqual => 5,
             BinaryOperator::Add | BinaryOperator::Subtract => 6,
             BinaryOperator::Multiply | BinaryOperator::Divide | BinaryOperator::Remainder => 7,
-        }
-    }
-
-    /// The operator that the token is between two operands.
-    pub fn of(token: &Token) -> Option<BinaryOperator>
-        ensures { result ≡ binary_of token.now }
-    {
-        match token {
-            Token::Word(Word::Implies) => Some(BinaryOperator::Implies),
-            Token::Word(Word::Or) => Some(BinaryOperator::Or),
-            Token::Word(Word::And) => Some(BinaryOperator::And),
-            Token::Mark(mark) => BinaryOperator::of_mark(*mark),
-            _ => None,
-        }
-    }
-
-    fn of_mark(mark: Mark) -> Option<BinaryOperator>
-        ensures { result ≡ binary_of_mark mark }
-    {
-        match mark {
-            Mark::Equal => Some(BinaryOperator::Equal),
-            Mark::NotEqual => Some(BinaryOperator::NotEqual),
-            Mark::Less => Some(BinaryOperator::Less),
-            Mark::LessOrEqual => Some(BinaryOperator::LessOrEqual),
-            Mark::Greater => Some(BinaryOperator::Greater),
-            Mark::GreaterOrEqual => Some(BinaryOperator::GreaterOrEqual),
-            Mark::Plus => Some(BinaryOperator::Add),
-            Mark::Minus => Some(BinaryOperator::Subtract),
-            Mark::Star => Some(BinaryOperator::Multiply),
-            Mark::Slash => Some(BinaryOperator::Divide),
-            Mark::Percent => Some(BinaryOperator::Remainder),
-            Mark::Implication => Some(BinaryOperator::Implies),
-            Mark::Bar => Some(BinaryOperator::Or),
-            Mark::Ampersand => Some(BinaryOperator::And),
-            _ => None,
         }
     }
 

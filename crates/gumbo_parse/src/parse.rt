@@ -1,67 +1,83 @@
-//! From the text of an annex to its contract.
+//! From the text of an annex to its contract, or to the first failure.
 
-ghost use Rattle.std.specs.Prelude.{◌≡◌, ◌≤◌, [], length, drop, pos, ◌-◌, IfOk, IfErr};
-ghost use Rattle.gumbo_parse.specs.Parsing.{IsContract, StopsAt, IfRefusedFor, place_before};
+ghost use Rattle.std.specs.Prelude.{◌≡◌, ◌<◌, ℕ, slice_get, Some, None, IfOk};
+ghost use Rattle.gumbo_parse.specs.Annex.{SpellsContract};
+ghost use Rattle.gumbo_parse.specs.Flaws.{flaw_at};
+ghost use Rattle.gumbo_parse.specs.Refusals.{IsAccepted, IsRejected, IfRefused, IsSound, FailsAt, unexpected_there, flawed};
 
-use crate::annex_reader::contract;
 use crate::contract::Contract;
+use crate::flaw::{Flawed, first_flawed};
 use crate::lexer::read_tokens;
-use crate::stop::Stop;
+use crate::refusals::{flawed, syntax};
 use crate::token::Token;
-use hw_text::{Code, Fault, Place, Placed, Refusal, TextBuf};
+use crate::whole::{Whole, read_whole};
+use hw_text::{Fault, Lexed, NoMemory, Place, Refusal};
 use std::alloc::Global;
 
-/// The contract of a text that begins at a place.
+/// The contract of a text that begins at a place, or why it is none.
 pub fn parse_annex(alloc: Global, bytes: &[u8], at: Place) -> Result<Contract, Fault>
-    ensures read { IfOk result (λ contract. IsContract at bytes.now contract) }
-    ensures refused { IfErr result (λ fault. IfRefusedFor fault (λ refusal. (refusal.code ≡ Code.ContractSyntax) × StopsAt at bytes.now refusal.place)) }
+    ensures accepted { IfOk result (λ contract. IsAccepted SpellsContract at bytes.now contract) }
+    ensures rejected { IfRefused result (λ refusal. IsRejected SpellsContract at bytes.now refusal) }
 {
     let lexed = read_tokens(alloc, bytes, at)?;
-    let tokens = lexed.tokens.rows();
-    match contract(alloc, tokens) {
-        Ok((found, rest)) => match rest.split_first() {
-            Some((next, _)) => Err(Fault::Refused(syntax(alloc, next.place))),
-            None => {
-                if lexed.rest.len() == 0 {
-                    Ok(found)
-                } else {
-                    Err(Fault::Refused(syntax(alloc, lexed.end)))
-                }
+    read_lexed(alloc, &lexed)
+}
+
+/// Reads the tokens of a text, and what stands behind them.
+fn read_lexed(alloc: Global, lexed: &Lexed<'_, Token>) -> Result<Contract, Fault>
+    ensures read { IfOk result (λ value. IsSound SpellsContract lexed.now.tokens lexed.now.rest.now value) }
+    ensures refused { IfRefused result (λ refusal. (i : ℕ) × FailsAt SpellsContract lexed.now.tokens lexed.now.end lexed.now.rest.now i refusal) }
+{
+    match first_flawed(lexed.tokens.rows()) {
+        Some(flaw) => Err(Fault::Refused(failure_before(alloc, lexed, flaw)?)),
+        None => read_flawless(alloc, lexed),
+    }
+}
+
+/// Reads tokens of which each is as it should be.
+fn read_flawless(alloc: Global, lexed: &Lexed<'_, Token>) -> Result<Contract, Fault>
+    requires { (k : ℕ) → flaw_at lexed.now.tokens k ≡ None }
+    ensures read { IfOk result (λ value. IsSound SpellsContract lexed.now.tokens lexed.now.rest.now value) }
+    ensures refused { IfRefused result (λ refusal. (i : ℕ) × FailsAt SpellsContract lexed.now.tokens lexed.now.end lexed.now.rest.now i refusal) }
+{
+    match read_whole(alloc, lexed.tokens.rows())? {
+        Whole::Text(value) => {
+            if lexed.rest.len() == 0 {
+                Ok(value)
+            } else {
+                Err(Fault::Refused(syntax(alloc, lexed.end)))
             }
-        },
-        Err(Stop::Stuck(left)) => {
-            let (_, rest) = tokens.split_at(tokens.len() - left);
-            Err(Fault::Refused(syntax(alloc, place_before(rest, lexed.end))))
         }
-        Err(Stop::NoMemory) => Err(Fault::NoMemory),
+        Whole::Stuck(passed) => Err(Fault::Refused(unexpected_behind(alloc, lexed, passed))),
     }
 }
 
-/// Where the first of these tokens stands, or else where they end.
-fn place_before(tokens: &[Placed<Token>], end: Place) -> Place
-    ensures { result ≡ place_before tokens.now end }
+/// The first failure in tokens of which one has a flaw.
+fn failure_before(
+    alloc: Global,
+    lexed: &Lexed<'_, Token>,
+    flaw: Flawed,
+) -> Result<Refusal, NoMemory>
+    requires flawed { flaw_at lexed.now.tokens flaw.index ≡ Some flaw.flaw }
+    requires first { (k : ℕ) → k < flaw.index → flaw_at lexed.now.tokens k ≡ None }
+    ensures { IfOk result (λ refusal. (i : ℕ) × FailsAt SpellsContract lexed.now.tokens lexed.now.end lexed.now.rest.now i refusal) }
 {
-    match tokens.split_first() {
-        Some((first, _)) => first.place,
-        None => end,
+    let (front, _) = lexed.tokens.rows().split_at(flaw.index + 1);
+    let whole = read_whole(alloc, front)?;
+    let passed = whole.passed(front.len());
+    if passed <= flaw.index {
+        return Ok(unexpected_behind(alloc, lexed, passed));
     }
+    let refusal = flawed(alloc, lexed.tokens.rows(), flaw)?;
+    Ok(refusal)
 }
 
-/// The refusal of a text that is no contract.
-fn syntax(alloc: Global, place: Place) -> Refusal
-    ensures code { result.code ≡ Code.ContractSyntax }
-    ensures place { result.place ≡ place }
-    ensures word { result.word ≡ [] }
-    ensures low { result.low ≡ pos 0 }
-    ensures high { result.high ≡ pos 0 }
-    ensures length { result.length ≡ pos 0 }
+/// Why no contract goes on behind so many tokens.
+fn unexpected_behind(alloc: Global, lexed: &Lexed<'_, Token>, passed: usize) -> Refusal
+    ensures { result ≡ unexpected_there lexed.now.end (slice_get lexed.now.tokens passed) }
 {
-    Refusal {
-        code: Code::ContractSyntax,
-        place,
-        word: TextBuf::new(alloc),
-        low: 0,
-        high: 0,
-        length: 0,
+    match lexed.tokens.rows().get(passed) {
+        Some(placed) => syntax(alloc, placed.place),
+        None => syntax(alloc, lexed.end),
     }
 }

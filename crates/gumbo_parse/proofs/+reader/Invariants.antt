@@ -1,38 +1,75 @@
-use Rattle.std.proofs.Common.{◌+◌, ◌*◌}
+use Rattle.std.proofs.Common.{[], ◌++◌, ◌+◌, ◌*◌, ◌≤◌, length}
+use Rattle.hw_text.specs.Language.{Each}
+use Rattle.hw_text.specs.Reading.{Leaves}
+use Rattle.gumbo_parse.specs.Grammar.{Spells, chained, SpellsOperation, SpellsParts, SpellsPart}
+use Rattle.gumbo_parse.specs.Levels.{Ends, height, part_shapes}
+use Rattle.gumbo_parse.specs.Values.{Without}
 use Rattle.gumbo_parse.proofs.+reader.Given as goal
 
-abbrev pub decreases-reader::expression : goal.decreases-reader::expression
-decreases-reader::expression l = 8 * l.depth
+-- each call reads fewer tokens than the one around it, or as many of a tighter level
+abbrev pub decreases-levels::read_level : goal.decreases-levels::read_level
+decreases-levels::read_level l = 40 * length l.tokens.now + 4 * height l.level + 3
 
-abbrev pub decreases-reader::closed : goal.decreases-reader::closed
-decreases-reader::closed l = 8 * l.depth + 1
+abbrev pub decreases-levels::read_chain : goal.decreases-levels::read_chain
+decreases-levels::read_chain l = 40 * length l.tokens.now + 4 * height l.level + 2
 
-abbrev pub decreases-reader::operand : goal.decreases-reader::operand
-decreases-reader::operand l = 8 * l.depth + 7
+abbrev pub decreases-levels::read_pair : goal.decreases-levels::read_pair
+decreases-levels::read_pair l = 40 * length l.tokens.now + 4 * height l.level + 2
 
-abbrev pub decreases-reader::chain : goal.decreases-reader::chain
-decreases-reader::chain l = 8 * l.depth + 1
+abbrev pub decreases-levels::read_prefixed : goal.decreases-levels::read_prefixed
+decreases-levels::read_prefixed l = 40 * length l.tokens.now + 4 * height l.level + 2
 
-abbrev pub decreases-primary::primary : goal.decreases-primary::primary
-decreases-primary::primary l = 8 * l.depth + 6
+abbrev pub decreases-levels::read_operation : goal.decreases-levels::read_operation
+decreases-levels::read_operation l = 40 * length l.tokens.now
 
-abbrev pub decreases-primary::value : goal.decreases-primary::value
-decreases-primary::value l = 8 * l.depth + 2
+abbrev pub decreases-levels::read_started : goal.decreases-levels::read_started
+decreases-levels::read_started l = 40 * length l.tokens.now + 36
 
-abbrev pub decreases-primary::before : goal.decreases-primary::before
-decreases-primary::before l = 8 * l.depth + 2
+abbrev pub decreases-operands::read_operand : goal.decreases-operands::read_operand
+decreases-operands::read_operand l = 40 * length l.tokens.now + 2
 
-abbrev pub decreases-primary::must_send : goal.decreases-primary::must_send
-decreases-primary::must_send l = 8 * l.depth + 3
+abbrev pub decreases-operands::read_value : goal.decreases-operands::read_value
+decreases-operands::read_value l = 40 * length l.tokens.now + 1
 
-abbrev pub decreases-primary::sent : goal.decreases-primary::sent
-decreases-primary::sent l = 8 * l.depth + 2
+abbrev pub decreases-operands::read_before : goal.decreases-operands::read_before
+decreases-operands::read_before l = 40 * length l.tokens.now + 1
 
-abbrev pub decreases-primary::bracketed : goal.decreases-primary::bracketed
-decreases-primary::bracketed l = 8 * l.depth + 3
+abbrev pub decreases-operands::read_must_send : goal.decreases-operands::read_must_send
+decreases-operands::read_must_send l = 40 * length l.tokens.now + 1
 
-abbrev pub decreases-primary::quantified : goal.decreases-primary::quantified
-decreases-primary::quantified l = 8 * l.depth + 2
+abbrev pub decreases-operands::read_sent : goal.decreases-operands::read_sent
+decreases-operands::read_sent l = 40 * length l.tokens.now + 38
 
-abbrev pub decreases-primary::tail : goal.decreases-primary::tail
-decreases-primary::tail l = 8 * l.depth
+abbrev pub decreases-operands::read_parenthesised : goal.decreases-operands::read_parenthesised
+decreases-operands::read_parenthesised l = 40 * length l.tokens.now + 1
+
+abbrev pub decreases-operands::read_group : goal.decreases-operands::read_group
+decreases-operands::read_group l = 40 * length l.tokens.now + 38
+
+abbrev pub decreases-operands::read_quantified : goal.decreases-operands::read_quantified
+decreases-operands::read_quantified l = 40 * length l.tokens.now + 37
+
+abbrev pub decreases-operands::read_parts : goal.decreases-operands::read_parts
+decreases-operands::read_parts l = 40 * length l.tokens.now + 30
+
+abbrev pub decreases-operands::read_part : goal.decreases-operands::read_part
+decreases-operands::read_part l = 40 * length l.tokens.now + 2
+
+abbrev pub decreases-operands::read_index : goal.decreases-operands::read_index
+decreases-operands::read_index l = 40 * length l.tokens.now + 1
+
+abbrev pub invariant-levels::read_chain-operations : goal.invariant-levels::read_chain-operations
+invariant-levels::read_chain-operations l =
+    Leaves (Spells l.fn.level) (Ends l.fn.level) l.fn.tokens l.tokens (λ os. chained l.left os) (Each (SpellsOperation l.fn.level)) ×
+    (length l.tokens ≤ length l.fn.tokens)
+
+abbrev pub decreases-levels::read_chain-operations : goal.decreases-levels::read_chain-operations
+decreases-levels::read_chain-operations l = length l.tokens
+
+abbrev pub invariant-operands::read_parts-parts : goal.invariant-operands::read_parts-parts
+invariant-operands::read_parts-parts l =
+    Leaves SpellsParts (Without part_shapes) l.fn.tokens l.tokens (λ later. l.parts ++ later) (Each SpellsPart) ×
+    (length l.tokens ≤ length l.fn.tokens)
+
+abbrev pub decreases-operands::read_parts-parts : goal.decreases-operands::read_parts-parts
+decreases-operands::read_parts-parts l = length l.tokens

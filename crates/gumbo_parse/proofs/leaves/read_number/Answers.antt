@@ -1,0 +1,9 @@
+use Rattle.gumbo_parse.proofs.LeafForms.{number_opening}
+use Rattle.gumbo_parse.proofs.Steps.{final, final_halt}
+use Rattle.gumbo_parse.proofs.leaves.read_number.Goals as goal
+
+pub returns-in_err-place : goal.returns-in_err-place
+returns-in_err-place c = final_halt _ _ _ (number_opening _) c.from_residual.ensures.1 c.in_err-place.ensures
+
+pub returns : goal.returns
+returns c = final (number_opening _) c.in_ok-place.ensures
