@@ -1,10 +1,12 @@
 pub mod Blanks
 pub mod CallGrammar
 pub mod ExpressionGrammar
+pub mod Forms
 pub mod Keywords
 pub mod Levels
 pub mod Marks
 pub mod Operators
+pub mod PartGrammar
 pub mod StatementGrammar
 pub mod Tokens
 pub mod TypedefGrammar

@@ -11,7 +11,7 @@ use Rattle.c_parse.specs.declared.mark.Mark.{Mark}
 use Rattle.c_parse.specs.declared.mark.Mark.TheVariants as mark
 use Rattle.c_parse.specs.declared.token.Token.{Token}
 use Rattle.c_parse.specs.declared.token.Token.TheVariants as token
-use Rattle.c_parse.specs.Levels.{binary_level}
+use Rattle.c_parse.specs.Levels.{binary_level, loosest_level}
 use Rattle.c_parse.specs.Values.{Tokens, is_mark}
 
 -- the operator that a token is before an operand, and where it stands
@@ -68,9 +68,13 @@ abbrev pub at_least : ℕ → Option BinaryOperator → Bool
 at_least n None = false
 at_least n (Some operator) = nat_le n (binary_level operator)
 
--- what leads to a part of an lvalue
+-- what leads to a part of a value
+abbrev pub is_part : Placed Token → Bool
+is_part t = is_mark mark.Dot t || is_mark mark.OpenBracket t
+
+-- what leads to a part, or from a pointer to a member
 abbrev pub is_selector : Placed Token → Bool
-is_selector t = is_mark mark.Dot t || is_mark mark.OpenBracket t
+is_selector t = is_part t || is_mark mark.Arrow t
 
 -- a token with which an expression of this level may go on
 abbrev pub goes_on : ℕ → Placed Token → Bool
@@ -79,3 +83,11 @@ goes_on n t = is_selector t || at_least n (operator_in t.token)
 -- what stands behind an expression of this level
 abbrev pub Ends : ℕ → Tokens → Type 0
 Ends n = BeginsWithout (goes_on n)
+
+-- a token with which what stands on the right may go on: an expression, or a name that is called
+abbrev pub right_goes_on : Placed Token → Bool
+right_goes_on t = is_mark mark.OpenParenthesis t || goes_on loosest_level t
+
+-- what stands behind what stands on the right
+abbrev pub RightEnds : Tokens → Type 0
+RightEnds = BeginsWithout right_goes_on

@@ -53,6 +53,10 @@ name_of t = name_in t.token t.place
 abbrev pub is_name : Placed Token → Bool
 is_name t = is_some (name_of t)
 
+-- the token of a name
+abbrev pub name_token : Named → Placed Token
+name_token x = record { token = token.Name x.name; place = x.place }
+
 abbrev pub literal_in : Token → Place → Option Literal
 literal_in (token.Literal n) at = Some (record { numeral = n; place = at })
 literal_in _ at = None

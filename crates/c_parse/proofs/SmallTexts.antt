@@ -1,0 +1,33 @@
+-- A small text of each kind.
+use Rattle.std.proofs.Common.{◌≡◌, refl, [], ◌∷◌, Bool}
+use Rattle.hw_text.specs.declared.place.Place.{Place}
+use Rattle.hw_text.specs.declared.placed.Placed.{Placed}
+use Rattle.c_tree.specs.declared.named.Named.{Named}
+use Rattle.c_tree.specs.declared.named.Literal.{Literal}
+use Rattle.c_tree.specs.declared.expression.Expression.{Expression}
+use Rattle.c_tree.specs.declared.expression.Expression.TheVariants.{Number}
+use Rattle.c_parse.specs.declared.token.Token.{Token}
+use Rattle.c_parse.specs.declared.token.Token.TheVariants as token
+use Rattle.c_parse.specs.declared.mark.Mark.{Mark}
+use Rattle.c_parse.specs.Tokens.{start}
+use Rattle.c_parse.specs.Values.{Tokens, literal_of}
+use Rattle.c_parse.specs.Levels.{prefix_level}
+use Rattle.c_parse.specs.ExpressionGrammar.{Sign, Name, SpellsExpression, SpellsPrefix, number}
+use Rattle.c_parse.proofs.Tokens.{a_sign}
+use Rattle.c_parse.proofs.TypeTexts.{a_literal}
+use Rattle.c_parse.proofs.Samples.{single}
+
+pub sign-text : (m : Mark) → (p : Place) × (w : Tokens) × Sign m p w
+sign-text m = let s = a_sign m in (s.1, s.0 ∷ [], (s.0, refl, s.2))
+
+abbrev a_name : Named
+a_name = record { name = 97 ∷ []; place = start }
+
+pub name-text : (x : Named) × (w : Tokens) × Name x w
+name-text = (a_name, record { token = token.Name (97 ∷ []); place = start } ∷ [], (record { token = token.Name (97 ∷ []); place = start }, refl, refl))
+
+pub operand-text : (full : Bool) → (e : Expression) × (w : Tokens) × SpellsPrefix full e w
+operand-text full = (Number a_literal.0.place a_literal.0, a_literal.1, number full a_literal.0 (Number a_literal.0.place a_literal.0) a_literal.1 refl a_literal.2)
+
+pub whole-text : (full : Bool) → (e : Expression) × (w : Tokens) × SpellsExpression full 1 e w
+whole-text full = let o = operand-text full in (o.0, o.1, single full 10 1 o.0 o.1 refl o.2)
