@@ -19,7 +19,7 @@ use Rattle.c_parse.specs.declared.mark.Mark.{Mark}
 use Rattle.c_parse.specs.declared.mark.Mark.TheVariants as mark
 use Rattle.c_parse.specs.declared.form.Form.{Form}
 use Rattle.c_parse.specs.declared.form.Form.TheVariants as form
-use Rattle.c_parse.specs.Values.{Tokens, mark_of, is_mark, name_in, name_of, literal_in, literal_of, truth_in, truth_of, integer_in, integer_of, is_integer}
+use Rattle.c_parse.specs.Values.{Tokens, mark_of, is_mark, name_in, name_of, is_name, literal_in, literal_of, truth_in, truth_of, integer_in, integer_of, is_integer}
 use Rattle.c_parse.specs.Operators.{unary_in, unary_of}
 use Rattle.c_parse.specs.Forms.{form_in, form_of_mark, form_ahead}
 use Rattle.c_parse.specs.ExpressionGrammar.{Sign}
@@ -45,6 +45,11 @@ name-form (token.Keyword w) at x is = absurd (none-some x is)
 name-form (token.Reserved n) at x is = absurd (none-some x is)
 name-form (token.Literal n) at x is = absurd (none-some x is)
 name-form (token.Mark m) at x is = absurd (none-some x is)
+
+-- where a name stands, an operand begins with it
+pub name-is : (ts : Tokens) → begins is_name ts ≡ true → form_ahead ts ≡ form.Name
+name-is [] is = absurd (false≢true is)
+name-is (t ∷ ts) is = let o = some-of (name_of t) is in name-form t.token t.place o.0 o.1
 
 truth-form : (t : Token) (at : Place) (x : Place × Bool) → truth_in t at ≡ Some x → form_in t ≡ form.Truth
 truth-form (token.Name n) at x is = absurd (none-some x is)
@@ -138,6 +143,13 @@ integer-nothing (t ∷ ts) is = integer-form t.token t.place is
 pub mark-form : (m : Mark) (ts : Tokens) → begins (is_mark m) ts ≡ true → form_ahead ts ≡ form_of_mark m
 mark-form m [] is = absurd (false≢true is)
 mark-form m (t ∷ ts) is = let o = some-of (mark_of m t) is in ap form_in (mark-token m t o.0 o.1)
+
+-- what a mark that stands there is
+pub stands-so : (m : Mark) (test : Placed Token → Bool) (so : Bool) → ((at : Place) → test (record { token = token.Mark m; place = at }) ≡ so) → (ts : Tokens) → begins (is_mark m) ts ≡ true → begins test ts ≡ so
+stands-so m test so is [] there = absurd (false≢true there)
+stands-so m test so is (t ∷ ts) there =
+    let o = some-of (mark_of m t) there in
+    ap (λ (u : Token). test (record { token = u; place = t.place })) (mark-token m t o.0 o.1) ∙ is t.place
 
 module _ {X : Type 0} (value : Placed Token → Option X) (f : Form) (is : (t : Placed Token) (x : X) → value t ≡ Some x → form_in t.token ≡ f) where
   one-form : (x : X) (w m : Tokens) → One value x w → form_ahead (w ++ m) ≡ f

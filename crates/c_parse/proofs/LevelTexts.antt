@@ -38,7 +38,7 @@ module _ (full : Bool) (n : ℕ) where
   abbrev OfLevel : Expression → Tokens → Type 0
   OfLevel = SpellsExpression full n
 
-  expression-some : (e : Expression) (w : Tokens) → OfLevel e w → 0 < length w
+  pub expression-some : (e : Expression) (w : Tokens) → OfLevel e w → 0 < length w
   expression-some e w text = some-tokens w (λ none. some-form full n e w [] text (ap (λ (l : Tokens). form_ahead (l ++ [])) none))
 
   -- a name that was passed is part of what is read from it on

@@ -1,5 +1,9 @@
+pub mod ArgumentLists
+pub mod ArgumentTexts
 pub mod BaseChoice
 pub mod BaseTexts
+pub mod CallBegins
+pub mod CallTexts
 pub mod Chains
 pub mod FormTokens
 pub mod Lengths
@@ -11,10 +15,12 @@ pub mod OpenedTexts
 pub mod OperandTexts
 pub mod PartTexts
 pub mod Pieces
+pub mod RightSides
 pub mod Samples
 pub mod SmallTexts
 pub mod ThreeParts
 pub mod TokenKinds
 pub mod Tokens
 pub mod TwoParts
+pub mod TwoTokens
 pub mod TypeTexts

@@ -3,6 +3,7 @@
 
 mod bases;
 mod blank;
+mod calls;
 mod expression_levels;
 mod expressions;
 mod form;
@@ -18,6 +19,7 @@ mod trees;
 mod types;
 mod words;
 
+pub use calls::{argument, call, call_behind, right_side};
 pub use expressions::{expression, expression_behind, lvalue, lvalue_behind};
 pub use keyword::Keyword;
 pub use leaf::{read_one, sign, stands};

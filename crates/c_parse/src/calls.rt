@@ -1,0 +1,129 @@
+//! The readers of calls, and of what stands on the right.
+
+ghost use Rattle.std.specs.Prelude.{◌≡◌, ◌∷◌};
+ghost use Rattle.hw_text.specs.Reading.{Reads, Anything, BeginsWith};
+ghost use Rattle.c_parse.specs.declared.mark.Mark.TheVariants as mark;
+ghost use Rattle.c_parse.specs.Levels.{loosest_level};
+ghost use Rattle.c_parse.specs.Operators.{Ends, RightEnds};
+ghost use Rattle.c_parse.specs.Values.{name_token, is_mark};
+ghost use Rattle.c_parse.specs.CallGrammar.{BehindComma, Separated, SpellsArgument, SpellsCall, SpellsRightSide};
+ghost use Rattle.c_parse.specs.PartGrammar.{from_name};
+
+use crate::expression_levels::of_level;
+use crate::expressions::expression;
+use crate::leaf::{read_one, sign, stands};
+use crate::mark::Mark;
+use crate::names::{name, pass_name};
+use crate::operators::LOOSEST_LEVEL;
+use crate::terminals::NameAt;
+use crate::token::Token;
+use c_tree::{Argument, Call, Named, RightSide};
+use hw_text::{Cursor, Placed, ReadFault, Rows};
+use std::alloc::Global;
+
+/// Reads an argument.
+pub fn argument(
+    alloc: Global,
+    tokens: &mut Cursor<'_, Placed<Token>>,
+    full: bool,
+) -> Result<Argument, ReadFault>
+    ensures { Reads (SpellsArgument full) (Ends loosest_level) tokens.old tokens.new result }
+{
+    if stands(tokens, Mark::Ampersand) {
+        let place = sign(tokens, Mark::Ampersand)?;
+        let variable = read_one::<NameAt>(alloc, tokens)?;
+        return Ok(Argument::Address(place, variable));
+    }
+    let value = expression(alloc, tokens, full)?;
+    Ok(Argument::Value(value))
+}
+
+/// Reads an argument behind a comma.
+fn next_argument(
+    alloc: Global,
+    tokens: &mut Cursor<'_, Placed<Token>>,
+    full: bool,
+) -> Result<Argument, ReadFault>
+    ensures { Reads (BehindComma (SpellsArgument full)) (Ends loosest_level) tokens.old tokens.new result }
+{
+    sign(tokens, Mark::Comma)?;
+    let next = argument(alloc, tokens, full)?;
+    Ok(next)
+}
+
+/// Reads the arguments of a call, which end before a `)`.
+fn arguments(
+    alloc: Global,
+    tokens: &mut Cursor<'_, Placed<Token>>,
+    full: bool,
+) -> Result<Rows<Argument>, ReadFault>
+    ensures { Reads (Separated (SpellsArgument full)) (BeginsWith (is_mark mark.CloseParenthesis)) tokens.old tokens.new result }
+{
+    let mut read = Rows::new(alloc);
+    if stands(tokens, Mark::CloseParenthesis) {
+        return Ok(read);
+    }
+    let first = argument(alloc, tokens, full)?;
+    read.push(first)?;
+    'arguments: while stands(tokens, Mark::Comma) {
+        let next = next_argument(alloc, tokens, full)?;
+        read.push(next)?;
+    }
+    Ok(read)
+}
+
+/// Reads a call, from a name on, if one was passed.
+fn call_from(
+    alloc: Global,
+    tokens: &mut Cursor<'_, Placed<Token>>,
+    full: bool,
+    passed: Option<Named>,
+) -> Result<Call, ReadFault>
+    ensures { Reads (SpellsCall full) Anything (from_name passed tokens.old) tokens.new result }
+{
+    let name = name(alloc, tokens, passed)?;
+    sign(tokens, Mark::OpenParenthesis)?;
+    let arguments = arguments(alloc, tokens, full)?;
+    sign(tokens, Mark::CloseParenthesis)?;
+    Ok(Call { name, arguments })
+}
+
+/// Reads a call.
+pub fn call(
+    alloc: Global,
+    tokens: &mut Cursor<'_, Placed<Token>>,
+    full: bool,
+) -> Result<Call, ReadFault>
+    ensures { Reads (SpellsCall full) Anything tokens.old tokens.new result }
+{
+    call_from(alloc, tokens, full, None)
+}
+
+/// Reads a call whose name was passed.
+pub fn call_behind(
+    alloc: Global,
+    tokens: &mut Cursor<'_, Placed<Token>>,
+    full: bool,
+    name: Named,
+) -> Result<Call, ReadFault>
+    ensures { Reads (SpellsCall full) Anything (name_token name ∷ tokens.old) tokens.new result }
+{
+    call_from(alloc, tokens, full, Some(name))
+}
+
+/// Reads what stands on the right: a call, or an expression.
+pub fn right_side(
+    alloc: Global,
+    tokens: &mut Cursor<'_, Placed<Token>>,
+    full: bool,
+) -> Result<RightSide, ReadFault>
+    ensures { Reads (SpellsRightSide full) RightEnds tokens.old tokens.new result }
+{
+    let passed = pass_name(alloc, tokens)?;
+    if passed.is_some() && stands(tokens, Mark::OpenParenthesis) {
+        let call = call_from(alloc, tokens, full, passed)?;
+        return Ok(RightSide::Call(call));
+    }
+    let value = of_level(alloc, tokens, full, LOOSEST_LEVEL, passed)?;
+    Ok(RightSide::Value(value))
+}
