@@ -1,3 +1,5 @@
+mod right_sides;
+
 use super::*;
 use hw_text::Place;
 use std::test::Fail;

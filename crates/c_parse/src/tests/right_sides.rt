@@ -1,0 +1,188 @@
+//! Expressions and calls, read and printed again.
+
+use crate::*;
+use c_tree::{
+    Function, Identifier, IntegerType, Item, Named, Returned, RightSide, TypeName, Unit, print,
+};
+use hw_text::{Cursor, Place, ReadFault, Rows, TextBuf};
+use std::alloc::Global;
+use std::test::Fail;
+
+const AT: Place = Place { line: 1, column: 1 };
+
+fn named(alloc: Global, name: &[u8]) -> Result<Named, Fail> {
+    let name = Identifier::read(alloc, name)?.ok_or("no name")?;
+    Ok(Named { name, place: AT })
+}
+
+/// A function that returns the value.
+fn returning(alloc: Global, value: RightSide) -> Result<Function, Fail> {
+    Ok(Function {
+        is_static: false,
+        returned: Some(Returned {
+            class: TypeName::Integer(AT, IntegerType::I8),
+            value,
+        }),
+        name: named(alloc, b"f")?,
+        parameters: Rows::new(alloc),
+        body: Rows::new(alloc),
+    })
+}
+
+/// The text of a function that returns the value.
+fn printed(alloc: Global, value: RightSide) -> Result<TextBuf, Fail> {
+    let mut items = Rows::new(alloc);
+    items.push(Item::Function(returning(alloc, value)?))?;
+    Ok(print(alloc, &Unit { items, end: AT })?)
+}
+
+/// The text of a function that returns what these bytes spell.
+fn expected(alloc: Global, text: &[u8]) -> Result<TextBuf, Fail> {
+    let mut out = TextBuf::new(alloc);
+    out.word(b"int8_t f(void) {\n    return ")?;
+    out.word(text)?;
+    out.word(b";\n}\n")?;
+    Ok(out)
+}
+
+/// What was read of a text, and how many tokens were left.
+fn read(
+    alloc: Global,
+    text: &[u8],
+    full: bool,
+) -> Result<(Result<RightSide, ReadFault>, usize), Fail> {
+    let lexed = read_tokens(alloc, text)?;
+    let mut tokens = Cursor::new(lexed.tokens.rows());
+    let value = right_side(alloc, &mut tokens, full);
+    Ok((value, tokens.left()))
+}
+
+/// Whether the text is read whole, and printed as the other one.
+fn is_printed_as(alloc: Global, text: &[u8], other: &[u8], full: bool) -> Result<bool, Fail> {
+    let (Ok(value), 0) = read(alloc, text, full)? else {
+        return Ok(false);
+    };
+    Ok(printed(alloc, value)?.rows() == expected(alloc, other)?.rows())
+}
+
+#[test]
+fn operators_group_by_their_levels(rt: HostRuntime) -> Result<(), Fail> {
+    let rows: [(&[u8], &[u8]); 30] = [
+        (b"a || b && c", b"a || (b && c)"),
+        (b"a && b || c", b"(a && b) || c"),
+        (b"a && b | c", b"a && (b | c)"),
+        (b"a | b && c", b"(a | b) && c"),
+        (b"a | b ^ c", b"a | (b ^ c)"),
+        (b"a ^ b | c", b"(a ^ b) | c"),
+        (b"a ^ b & c", b"a ^ (b & c)"),
+        (b"a & b ^ c", b"(a & b) ^ c"),
+        (b"a & b == c", b"a & (b == c)"),
+        (b"a != b & c", b"(a != b) & c"),
+        (b"a == b < c", b"a == (b < c)"),
+        (b"a <= b != c", b"(a <= b) != c"),
+        (b"a > b << c", b"a > (b << c)"),
+        (b"a >> b >= c", b"(a >> b) >= c"),
+        (b"a << b + c", b"a << (b + c)"),
+        (b"a - b >> c", b"(a - b) >> c"),
+        (b"a + b * c", b"a + (b * c)"),
+        (b"a / b - c", b"(a / b) - c"),
+        (b"a || b || c", b"(a || b) || c"),
+        (b"a && b && c", b"(a && b) && c"),
+        (b"a | b | c", b"(a | b) | c"),
+        (b"a ^ b ^ c", b"(a ^ b) ^ c"),
+        (b"a & b & c", b"(a & b) & c"),
+        (b"a == b != c", b"(a == b) != c"),
+        (b"a < b >= c", b"(a < b) >= c"),
+        (b"a << b >> c", b"(a << b) >> c"),
+        (b"a - b + c - d", b"((a - b) + c) - d"),
+        (b"a / b * c % d", b"((a / b) * c) % d"),
+        (b"a - (b - c)", b"a - (b - c)"),
+        (
+            b"a || b | c + d * e == f",
+            b"a || (b | ((c + (d * e)) == f))",
+        ),
+    ];
+    for (text, other) in rows {
+        assert!(rt; is_printed_as(rt.alloc(), text, other, false)?);
+    }
+    Ok(())
+}
+
+#[test]
+fn operands_bind_tightest(rt: HostRuntime) -> Result<(), Fail> {
+    let rows: [(&[u8], &[u8]); 16] = [
+        (b"- -a", b"- -a"),
+        (b"-(-a)", b"- -a"),
+        (b"!~a", b"!~a"),
+        (b"-a * b", b"-a * b"),
+        (b"-(a * b)", b"-(a * b)"),
+        (b"((a))", b"a"),
+        (b"-a.b[c + 1].d[2]", b"-a.b[c + 1].d[2]"),
+        (b"(uint8_t)a + b", b"(uint8_t)a + b"),
+        (b"(int8_t)(a + b)", b"(int8_t)(a + b)"),
+        (b"(int64_t)-(uint16_t)a", b"(int64_t)-(uint16_t)a"),
+        (b"true", b"true"),
+        (b"a == false", b"a == false"),
+        (b"0x1Ful - 5", b"0x1Ful - 5"),
+        (b"f()", b"f()"),
+        (b"f(&a, b + c, -1, d[0])", b"f(&a, b + c, -1, d[0])"),
+        (b"f (  a & b )", b"f(a & b)"),
+    ];
+    for (text, other) in rows {
+        assert!(rt; is_printed_as(rt.alloc(), text, other, false)?);
+    }
+    Ok(())
+}
+
+#[test]
+fn pointers_stand_in_the_full_grammar(rt: HostRuntime) -> Result<(), Fail> {
+    let rows: [&[u8]; 5] = [
+        b"(*p)",
+        b"-(*p).a[0]",
+        b"(*p) * q->b.c",
+        b"f((*p), q->b[q->count])",
+        b"(uint8_t)p->f",
+    ];
+    for text in rows {
+        assert!(rt; is_printed_as(rt.alloc(), text, text, true)?);
+        assert!(rt; !is_printed_as(rt.alloc(), text, text, false)?);
+    }
+    Ok(())
+}
+
+#[test]
+fn readers_stop_at_the_first_token_that_goes_no_further(rt: HostRuntime) -> Result<(), Fail> {
+    let rows: [(&[u8], bool, bool, usize); 25] = [
+        (b"", false, false, 0),
+        (b"--a", false, false, 2),
+        (b"a--b", false, true, 2),
+        (b"(*p)", false, false, 3),
+        (b"p->f", false, true, 2),
+        (b"p->f->g", true, true, 2),
+        (b"(*p)->f", true, true, 2),
+        (b"p->", true, false, 0),
+        (b"(*)", true, false, 1),
+        (b"&a", false, false, 2),
+        (b"int8_t", false, false, 1),
+        (b"while", false, false, 1),
+        (b"a +", false, false, 0),
+        (b"a + * b", false, false, 2),
+        (b"(a", false, false, 0),
+        (b"(int8_t)", false, false, 0),
+        (b"(int8_t a)", false, false, 2),
+        (b"a[b", false, false, 0),
+        (b"a.1", false, false, 1),
+        (b"(a).b", false, true, 2),
+        (b"(f)(a)", false, true, 3),
+        (b"f(a b)", false, false, 2),
+        (b"f(a,)", false, false, 1),
+        (b"f(&1)", false, false, 2),
+        (b"f(g(1))", false, false, 4),
+    ];
+    for (text, full, is_read, left) in rows {
+        let (value, at) = read(rt.alloc(), text, full)?;
+        assert_eq!(rt; value.is_ok(), is_read);
+        assert_eq!(rt; at, left);
+    }
+    Ok(())
+}
