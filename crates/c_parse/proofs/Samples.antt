@@ -50,7 +50,7 @@ a_pointer =
     let s = at_start (token.Mark mark.Star) in
     let q = at_start (token.Name (113 ∷ [])) in
     let e = at_start (token.Mark mark.Semicolon) in
-    inr (inr (inr (inr (inl (
+    inr (inr (inl (
       refl,
       (
         record { class = named (114 ∷ []); name = named (113 ∷ []) },
@@ -79,4 +79,4 @@ a_pointer =
           ),
         ),
       ),
-    )))))
+    )))

@@ -26,6 +26,10 @@ Word w = One (keyword_of w)
 abbrev pub BehindComma : {X : Type 0} → (X → Tokens → Type 0) → X → Tokens → Type 0
 BehindComma A = Made (λ p. p.1) (Sign mark.Comma ⋅ A)
 
+-- { x }, behind a first member that was read before
+abbrev pub Following : {X : Type 0} → X → (X → Tokens → Type 0) → List X → Tokens → Type 0
+Following first A = Made (λ later. first ∷ later) (Each A)
+
 -- [ x { "," x } ]
 abbrev pub Separated : {X : Type 0} → (X → Tokens → Type 0) → List X → Tokens → Type 0
 Separated A [] ts = ts ≡ []

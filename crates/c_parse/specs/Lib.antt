@@ -1,5 +1,6 @@
 pub mod Blanks
 pub mod CallGrammar
+pub mod CountGrammar
 pub mod ExpressionGrammar
 pub mod Forms
 pub mod Keywords
@@ -7,6 +8,7 @@ pub mod Levels
 pub mod Marks
 pub mod Operators
 pub mod PartGrammar
+pub mod PlainGrammar
 pub mod StatementGrammar
 pub mod Tokens
 pub mod TypedefGrammar

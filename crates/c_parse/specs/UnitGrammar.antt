@@ -1,5 +1,5 @@
 -- The grammar of units, in the user grammar or the full one (docs/formats/c.md).
-use Rattle.std.specs.Prelude.{◌≡◌, Bool, true, false, List, [], ◌∷◌, ◌++◌, Option, Some, None}
+use Rattle.std.specs.Prelude.{◌≡◌, Bool, true, false, List, [], ◌∷◌, ◌++◌, Option, Some, None, is_some}
 use Rattle.hw_text.specs.declared.place.Place.{Place}
 use Rattle.hw_text.specs.Language.{One, Nothing, ◌⋅◌, Maybe, Each, Made, ◌∣◌}
 use Rattle.c_tree.specs.declared.named.Named.{Named}
@@ -8,44 +8,35 @@ use Rattle.c_tree.specs.declared.type_name.TypeName.{TypeName}
 use Rattle.c_tree.specs.declared.expression.RightSide.{RightSide}
 use Rattle.c_tree.specs.declared.item.InitialValue.{InitialValue}
 use Rattle.c_tree.specs.declared.item.InitialValue.TheVariants as initial
-use Rattle.c_tree.specs.declared.item.Variable.{Variable}
 use Rattle.c_tree.specs.declared.item.External.{External}
 use Rattle.c_tree.specs.declared.item.Pointer.{Pointer}
 use Rattle.c_tree.specs.declared.item.Parameter.{Parameter}
-use Rattle.c_tree.specs.declared.item.Prototype.{Prototype}
 use Rattle.c_tree.specs.declared.item.Returned.{Returned}
-use Rattle.c_tree.specs.declared.item.Function.{Function}
 use Rattle.c_tree.specs.declared.item.Item.{Item}
 use Rattle.c_tree.specs.declared.item.Item.TheVariants as item
+use Rattle.c_tree.specs.declared.statement.Statement.{Statement}
 use Rattle.c_tree.specs.declared.unit.Unit.{Unit as CUnit}
+use Rattle.c_parse.specs.declared.headings.Heading.{Heading}
 use Rattle.c_parse.specs.declared.keyword.Keyword.TheVariants as keyword
 use Rattle.c_parse.specs.declared.mark.Mark.TheVariants as mark
 use Rattle.c_parse.specs.Values.{Tokens, truth_of}
 use Rattle.c_parse.specs.ExpressionGrammar.{Sign, Name, InFull}
 use Rattle.c_parse.specs.CallGrammar.{Word, BehindComma, SpellsType, SpellsSigned, SpellsRightSide}
-use Rattle.c_parse.specs.TypedefGrammar.{SpellsEnumeration, SpellsLength, SpellsStructure}
-use Rattle.c_parse.specs.StatementGrammar.{Zeros, SpellsStatements}
+use Rattle.c_parse.specs.TypedefGrammar.{SpellsLength, SpellsTypedef}
+use Rattle.c_parse.specs.PlainGrammar.{SpellsZeros}
+use Rattle.c_parse.specs.StatementGrammar.{SpellsStatements}
 
 abbrev pub initial_truth : Place × Bool → InitialValue
 initial_truth p = initial.Truth p.0 p.1
 
--- "{" "0" "}" | lit | "true" | "false" | NAME
+-- "{" "0" "}" | "true" | "false" | NAME | lit
 abbrev pub SpellsInitial : InitialValue → Tokens → Type 0
 SpellsInitial =
-    Made (λ p. initial.Zero) Zeros ∣ Made initial.Number SpellsSigned ∣ Made initial_truth (One truth_of) ∣ Made initial.Enumerator Name
+    Made (λ u. initial.Zero) SpellsZeros ∣ Made initial_truth (One truth_of) ∣ Made initial.Enumerator Name ∣ Made initial.Number SpellsSigned
 
 -- whether "static" stands there
 abbrev pub SpellsStatic : Bool → Tokens → Type 0
 SpellsStatic = Made (λ p. true) (Word keyword.Static) ∣ Made (λ p. false) Nothing
-
-abbrev pub variable_of : Bool × (TypeName × (Named × (Option Literal × (Option InitialValue × Place)))) → Variable
-variable_of p = record { is_static = p.0; class = p.1.0; name = p.1.1.0; length = p.1.1.1.0; initial = p.1.1.1.1.0 }
-
--- [ "static" ] ty NAME [ "[" INT "]" ] [ "=" init ] ";"
-abbrev pub SpellsVariable : Variable → Tokens → Type 0
-SpellsVariable =
-    Made variable_of
-    (SpellsStatic ⋅ SpellsType ⋅ Name ⋅ SpellsLength ⋅ Maybe (Made (λ p. p.1) (Sign mark.Assign ⋅ SpellsInitial)) ⋅ Sign mark.Semicolon)
 
 abbrev pub external_of : Place × (TypeName × (Named × (Option Literal × Place))) → External
 external_of p = record { class = p.1.0; name = p.1.1.0; length = p.1.1.1.0 }
@@ -84,45 +75,67 @@ SpellsParameters full =
 abbrev pub SpellsResult : Option TypeName → Tokens → Type 0
 SpellsResult = Made (λ p. None) (Word keyword.Void) ∣ Made Some SpellsType
 
--- [ "static" ] result NAME "(" parameters ")"
-abbrev pub SpellsHead : Bool → Bool × (Option TypeName × (Named × (Place × (List Parameter × Place)))) → Tokens → Type 0
-SpellsHead full = SpellsStatic ⋅ SpellsResult ⋅ Name ⋅ Sign mark.OpenParenthesis ⋅ SpellsParameters full ⋅ Sign mark.CloseParenthesis
+abbrev pub heading_of : Bool × (Option TypeName × Named) → Heading
+heading_of p = record { is_static = p.0; class = p.1.0; name = p.1.1 }
 
-abbrev pub prototype_of : (Bool × (Option TypeName × (Named × (Place × (List Parameter × Place))))) × Place → Prototype
-prototype_of p = record { is_static = p.0.0; class = p.0.1.0; name = p.0.1.1.0; parameters = p.0.1.1.1.1.0 }
+-- [ "static" ] result NAME
+abbrev pub SpellsHeading : Heading → Tokens → Type 0
+SpellsHeading = Made heading_of (SpellsStatic ⋅ SpellsResult ⋅ Name)
 
--- head ";"
-abbrev pub SpellsPrototype : Bool → Prototype → Tokens → Type 0
-SpellsPrototype full = Made prototype_of (SpellsHead full ⋅ Sign mark.Semicolon)
+abbrev pub variable_of : Bool → TypeName → Named → Option Literal × (Option InitialValue × Place) → Item
+variable_of is_static class name p =
+    item.Variable (record { is_static = is_static; class = class; name = name; length = p.0; initial = p.1.0 })
 
--- what stands behind the statements of a body: nothing in a `void` function, else "return" rhs ";"
-abbrev pub SpellsReturn : Bool → Option TypeName → Option Returned → Tokens → Type 0
-SpellsReturn full None returned ts = (returned ≡ None) × (ts ≡ [])
-SpellsReturn full (Some class) returned ts =
-    (p q : Place) × (value : RightSide) × (returned ≡ Some (record { class = class; value = value })) ×
-    (Word keyword.Return ⋅ SpellsRightSide full ⋅ Sign mark.Semicolon) (p, (value, q)) ts
+-- [ "[" INT "]" ] [ "=" init ] ";"
+abbrev pub VariableBehind : Bool → TypeName → Named → Item → Tokens → Type 0
+VariableBehind is_static class name =
+    Made (variable_of is_static class name) (SpellsLength ⋅ Maybe (Made (λ p. p.1) (Sign mark.Assign ⋅ SpellsInitial)) ⋅ Sign mark.Semicolon)
 
--- head "{" { stmt } [ "return" rhs ";" ] "}"
-pub record SpellsFunction (full : Bool) (f : Function) (ts : Tokens) : Type 0 where
-  pub class : Option TypeName
-  pub head : Tokens
-  pub opening : Tokens
-  pub body : Tokens
-  pub answer : Tokens
-  pub closing : Tokens
-  pub places : Place × (Place × (Place × Place))
-  pub split : ts ≡ head ++ (opening ++ (body ++ (answer ++ closing)))
-  pub spelled_head : SpellsHead full (f.is_static, (class, (f.name, (places.0, (f.parameters, places.1.0))))) head
-  pub spelled_opening : Sign mark.OpenBrace places.1.1.0 opening
-  pub spelled_body : SpellsStatements full f.body body
-  pub spelled_answer : SpellsReturn full class f.returned answer
-  pub spelled_closing : Sign mark.CloseBrace places.1.1.1 closing
+-- the statements of a body, and the value that is returned
+abbrev pub Body : Type 0
+Body = List Statement × Option RightSide
+
+-- { stmt } "return" rhs ";" "}", or { stmt } "}" where nothing is returned
+abbrev pub SpellsBody : Bool → Bool → Body → Tokens → Type 0
+SpellsBody full true =
+    Made (λ p. (p.0, Some p.1.1.0)) (SpellsStatements full ⋅ Word keyword.Return ⋅ SpellsRightSide full ⋅ Sign mark.Semicolon ⋅ Sign mark.CloseBrace)
+SpellsBody full false = Made (λ p. (p.0, None)) (SpellsStatements full ⋅ Sign mark.CloseBrace)
+
+-- "{" body, or in full ";"
+abbrev pub SpellsEnding : Bool → Bool → Option Body → Tokens → Type 0
+SpellsEnding full returns =
+    InFull full (Made (λ p. None) (Sign mark.Semicolon)) ∣ Made (λ p. Some p.1) (Sign mark.OpenBrace ⋅ SpellsBody full returns)
+
+abbrev pub returned_of : Option TypeName → Option RightSide → Option Returned
+returned_of (Some class) (Some value) = Some (record { class = class; value = value })
+returned_of _ _ = None
+
+-- a prototype where there is no body, else a function
+abbrev pub function_of : Heading → List Parameter → Option Body → Item
+function_of h parameters None =
+    item.Prototype (record { is_static = h.is_static; class = h.class; name = h.name; parameters = parameters })
+function_of h parameters (Some body) =
+    item.Function (record { is_static = h.is_static; returned = returned_of h.class body.1; name = h.name; parameters = parameters; body = body.0 })
+
+-- "(" parameters ")" and the body, or in full ";"
+abbrev pub FunctionBehind : Bool → Heading → Item → Tokens → Type 0
+FunctionBehind full h =
+    Made (λ p. function_of h p.1.0 p.1.1.1)
+    (Sign mark.OpenParenthesis ⋅ SpellsParameters full ⋅ Sign mark.CloseParenthesis ⋅ SpellsEnding full (is_some h.class))
+
+-- what stands behind the heading: for a type that of a variable or of a function, for `void` that of a function
+abbrev pub ItemBehind : Bool → Heading → Option TypeName → Item → Tokens → Type 0
+ItemBehind full h None = FunctionBehind full h
+ItemBehind full h (Some class) = VariableBehind h.is_static class h.name ∣ FunctionBehind full h
+
+-- a variable, a function, or in full a prototype
+abbrev pub SpellsDeclared : Bool → Item → Tokens → Type 0
+SpellsDeclared full i ts = (h : Heading) × (us vs : Tokens) × (ts ≡ us ++ vs) × SpellsHeading h us × ItemBehind full h h.class i vs
 
 abbrev pub SpellsItem : Bool → Item → Tokens → Type 0
 SpellsItem full =
-    InFull full (Made item.Enumeration SpellsEnumeration) ∣ InFull full (Made item.Structure SpellsStructure) ∣
-    Made item.Variable SpellsVariable ∣ InFull full (Made item.External SpellsExternal) ∣ InFull full (Made item.Pointer SpellsPointer) ∣
-    InFull full (Made item.Prototype (SpellsPrototype full)) ∣ Made item.Function (SpellsFunction full)
+    InFull full SpellsTypedef ∣ InFull full (Made item.External SpellsExternal) ∣ InFull full (Made item.Pointer SpellsPointer) ∣
+    SpellsDeclared full
 
 -- { item }, the text ending there
 abbrev pub SpellsUnit : Bool → Place → CUnit → Tokens → Type 0

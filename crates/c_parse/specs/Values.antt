@@ -1,5 +1,5 @@
 -- What tokens stand for in the grammar.
-use Rattle.std.specs.Prelude.{Bool, true, false, List, codes, Option, Some, None, is_some}
+use Rattle.std.specs.Prelude.{ℕ, Bool, true, false, ◌||◌, List, codes, Option, Some, None, is_some}
 use Rattle.std.specs.Str.{bytes_eq}
 use Rattle.hw_text.specs.declared.place.Place.{Place}
 use Rattle.hw_text.specs.declared.placed.Placed.{Placed}
@@ -57,6 +57,14 @@ is_name t = is_some (name_of t)
 abbrev pub name_token : Named → Placed Token
 name_token x = record { token = token.Name x.name; place = x.place }
 
+-- where this name stands
+abbrev pub again_in : List ℕ → Token → Place → Option Place
+again_in n (token.Name other) at = found (bytes_eq other n) at
+again_in n _ at = None
+
+abbrev pub again_of : List ℕ → Placed Token → Option Place
+again_of n t = again_in n t.token t.place
+
 abbrev pub literal_in : Token → Place → Option Literal
 literal_in (token.Literal n) at = Some (record { numeral = n; place = at })
 literal_in _ at = None
@@ -85,6 +93,10 @@ integer_of t = integer_in t.token t.place
 
 abbrev pub is_integer : Placed Token → Bool
 is_integer t = is_some (integer_of t)
+
+-- a type that is no name
+abbrev pub is_plain_type : Placed Token → Bool
+is_plain_type t = is_integer t || is_word keyword.Bool t
 
 -- `true` or `false`, and where it stands
 abbrev pub truth_in : Token → Place → Option (Place × Bool)

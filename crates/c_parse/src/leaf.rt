@@ -1,6 +1,6 @@
 //! Single tokens, and how they are read.
 
-ghost use Rattle.std.specs.Prelude.{◌≡◌, Option, Some, IfOk};
+ghost use Rattle.std.specs.Prelude.{◌≡◌, ◌&&◌, Option, Some, IfOk};
 ghost use Rattle.hw_text.specs.declared.placed.Placed.{Placed};
 ghost use Rattle.hw_text.specs.Language.{One};
 ghost use Rattle.hw_text.specs.Reading.{Reads, Anything, ahead, begins};
@@ -84,6 +84,13 @@ pub fn stands(tokens: &Cursor<'_, Placed<Token>>, mark: Mark) -> bool
         Some(token) => mark_of(mark, token).is_some(),
         None => false,
     }
+}
+
+/// Whether this mark of the full grammar is ahead.
+pub fn stands_in_full(tokens: &Cursor<'_, Placed<Token>>, full: bool, mark: Mark) -> bool
+    ensures { result ≡ (full && begins (is_mark mark) tokens.now) }
+{
+    full && stands(tokens, mark)
 }
 
 /// Reads this mark.

@@ -7,7 +7,7 @@ ghost use Rattle.c_parse.specs.declared.keyword.Keyword.TheVariants as keyword;
 ghost use Rattle.c_parse.specs.declared.mark.Mark.TheVariants as mark;
 ghost use Rattle.c_parse.specs.declared.token.Token.TheVariants as token;
 ghost use Rattle.c_parse.specs.Tokens.{start};
-ghost use Rattle.c_parse.specs.Values.{name_of, literal_of, integer_of, truth_of};
+ghost use Rattle.c_parse.specs.Values.{name_of, literal_of, integer_of, truth_of, zero_of};
 ghost use Rattle.c_parse.specs.Operators.{unary_of};
 
 use crate::keyword::Keyword;
@@ -58,6 +58,24 @@ impl Terminal for LiteralAt {
     }
 
     ghost sample = { (record { token = token.Literal (codes "0"); place = start }, record { numeral = codes "0"; place = start }, refl) };
+}
+
+/// The literal that is spelled `0`.
+pub struct ZeroAt;
+
+impl Terminal for ZeroAt {
+    type Value = Place;
+
+    ghost value = { zero_of };
+
+    fn value(_alloc: Global, token: &Placed<Token>) -> Result<Option<Self::Value>, NoMemory> {
+        match &token.token {
+            Token::Literal(numeral) if numeral.rows() == b"0".as_slice() => Ok(Some(token.place)),
+            _ => Ok(None),
+        }
+    }
+
+    ghost sample = { (record { token = token.Literal (codes "0"); place = start }, start, refl) };
 }
 
 /// An integer type, and where it stands.

@@ -1,6 +1,6 @@
 //! Words of the grammar, and how they are read.
 
-ghost use Rattle.std.specs.Prelude.{◌≡◌};
+ghost use Rattle.std.specs.Prelude.{◌≡◌, ◌&&◌};
 ghost use Rattle.hw_text.specs.Reading.{Reads, Anything, ahead, begins};
 ghost use Rattle.c_parse.specs.Values.{keyword_of, is_word};
 ghost use Rattle.c_parse.specs.CallGrammar.{Word};
@@ -39,6 +39,13 @@ pub fn stands_word(tokens: &Cursor<'_, Placed<Token>>, word: Keyword) -> bool
         Some(token) => keyword_of(word, token).is_some(),
         None => false,
     }
+}
+
+/// Whether this word of the full grammar is ahead.
+pub fn stands_word_in_full(tokens: &Cursor<'_, Placed<Token>>, full: bool, word: Keyword) -> bool
+    ensures { result ≡ (full && begins (is_word word) tokens.now) }
+{
+    full && stands_word(tokens, word)
 }
 
 /// Reads this word.

@@ -1,0 +1,110 @@
+-- Items: texts of their parts, and which stands ahead.
+use Rattle.std.proofs.Common.{◌≡◌, ◌∙◌, refl, sym, ap, subst, Bool, true, false, ◌&&◌, ◌++◌, List, [], ◌∷◌, append_assoc, Option, Some, None, inl, inr}
+use Rattle.std.specs.Prelude.{⊤, not, is_some}
+use Rattle.hw_text.specs.declared.placed.Placed.{Placed}
+use Rattle.hw_text.specs.declared.place.Place.{Place}
+use Rattle.hw_text.specs.Language.{Nothing, ◌⋅◌, ◌∣◌, Made, Maybe, One, Each}
+use Rattle.hw_text.specs.Reading.{first, begins, Begins, Anything, BeginsWith, BeginsWithout, TheEnd, Reached, Stuck, Reads, Leaves}
+use Rattle.hw_text.proofs.Reading.{made-begins, then-begins, maybe-begins}
+use Rattle.c_tree.specs.declared.type_name.TypeName.{TypeName}
+use Rattle.c_tree.specs.declared.named.Named.{Named}
+use Rattle.c_tree.specs.declared.named.Literal.{Literal}
+use Rattle.c_tree.specs.declared.item.InitialValue.{InitialValue}
+use Rattle.c_tree.specs.declared.statement.Statement.{Statement}
+use Rattle.c_tree.specs.declared.item.Item.{Item}
+use Rattle.c_tree.specs.declared.item.Item.TheVariants as item
+use Rattle.c_parse.specs.declared.headings.Heading.{Heading}
+use Rattle.c_parse.specs.declared.token.Token.{Token}
+use Rattle.c_parse.specs.declared.keyword.Keyword.TheVariants as keyword
+use Rattle.c_parse.specs.declared.mark.Mark.TheVariants as mark
+use Rattle.c_parse.specs.Values.{Tokens, is_word, is_mark, integer_of}
+use Rattle.c_parse.specs.Operators.{RightEnds, right_goes_on}
+use Rattle.c_parse.specs.ExpressionGrammar.{Sign, Name, InFull}
+use Rattle.c_parse.specs.CallGrammar.{Word, SpellsType, SpellsRightSide}
+use Rattle.c_parse.specs.TypedefGrammar.{SpellsLength, SpellsTypedef}
+use Rattle.c_parse.specs.StatementGrammar.{SpellsStatements, ends_body}
+use Rattle.c_parse.specs.UnitGrammar.{SpellsInitial, SpellsHeading, VariableBehind, variable_of, Body, SpellsBody, SpellsEnding, SpellsParameters, FunctionBehind, ItemBehind, SpellsDeclared, SpellsItem, SpellsExternal, SpellsPointer}
+use Rattle.c_parse.proofs.TypedefTexts.{type_begins}
+use Rattle.c_parse.proofs.RightTexts.{a_right}
+use Rattle.c_parse.proofs.StatementTexts.{no_statements}
+use Rattle.c_parse.proofs.HeadingTexts.{a_heading, heading_begins, result_begins}
+use Rattle.c_parse.proofs.Lists.{Listed, any_token}
+use Rattle.c_parse.proofs.Steps.{Sample, both, sample_of, all_left, at_first, at_second, unmake, in_full, by_test, by_full, either_way, and_left, and_right, is_there, is_absent, stuck_by, passed_by}
+use Rattle.c_parse.proofs.Leaves.{the_sign, the_word, the_name, sign_begins, word_begins, name_begins, integer_begins, this_sign, this_word}
+
+abbrev pub Given : Option InitialValue → Tokens → Type 0
+Given = Maybe (Made (λ (p : Place × InitialValue). p.1) (Sign mark.Assign ⋅ SpellsInitial))
+
+pub an_initial : Sample SpellsInitial
+an_initial = (_, the_name.1, inr (inr (inl (the_name.0, refl, the_name.2))))
+
+pub length_follow : (y : Option InitialValue × Place) (w m : Tokens) → (Given ⋅ Sign mark.Semicolon) y w → Anything m → BeginsWithout (is_mark mark.OpenBracket) (w ++ m)
+length_follow y w m text follows = maybe-begins (is_mark mark.OpenBracket) false (Made (λ (p : Place × InitialValue). p.1) (Sign mark.Assign ⋅ SpellsInitial)) (Sign mark.Semicolon)
+    (made-begins (is_mark mark.OpenBracket) false (Sign mark.Assign ⋅ SpellsInitial) (λ p. p.1) (then-begins (is_mark mark.OpenBracket) false (Sign mark.Assign) SpellsInitial (sign_begins (is_mark mark.OpenBracket) false mark.Assign (λ p. refl))))
+    (sign_begins (is_mark mark.OpenBracket) false mark.Semicolon (λ p. refl)) y w m text
+
+pub given_follow : (y : Place) (w m : Tokens) → Sign mark.Semicolon y w → Anything m → BeginsWithout (is_mark mark.Assign) (w ++ m)
+given_follow y w m text follows = sign_begins (is_mark mark.Assign) false mark.Semicolon (λ p. refl) y w m text
+
+pub parameters_follow : {X : Type 0} (C : X → Tokens → Type 0) (y : Place × X) (w m : Tokens) → (Sign mark.CloseParenthesis ⋅ C) y w → Anything m → BeginsWithout (is_mark mark.Comma) (w ++ m)
+parameters_follow C y w m text follows = then-begins (is_mark mark.Comma) false (Sign mark.CloseParenthesis) C (sign_begins (is_mark mark.Comma) false mark.CloseParenthesis (λ p. refl)) y w m text
+
+assign-begins : (test : Placed Token → Bool) (so : Bool) → Begins test so (Sign mark.Assign) → Begins test so (Made (λ (p : Place × InitialValue). p.1) (Sign mark.Assign ⋅ SpellsInitial))
+assign-begins test so is = made-begins test so (Sign mark.Assign ⋅ SpellsInitial) (λ p. p.1) (then-begins test so (Sign mark.Assign) SpellsInitial is)
+
+module _ (before : Tokens) where
+  pub not_given : begins (is_mark mark.Assign) before ≡ false → Reached Given (BeginsWithout (is_mark mark.Assign)) before before None
+  not_given none = is_absent (all_left Given (BeginsWithout (is_mark mark.Assign)) before) (assign-begins (is_mark mark.Assign) true (this_sign mark.Assign)) none
+
+  pub given_there : begins (is_mark mark.Assign) before ≡ true → Leaves Given (BeginsWithout (is_mark mark.Assign)) before before (λ p. Some p.1) (Sign mark.Assign ⋅ SpellsInitial)
+  given_there there = unmake (is_there (all_left Given (BeginsWithout (is_mark mark.Assign)) before) (λ m follows. follows) there)
+
+module _ (full : Bool) where
+  pub close_ends : (y : Place) (w m : Tokens) → Sign mark.CloseBrace y w → Anything m → BeginsWith ends_body (w ++ m)
+  close_ends y w m text follows = sign_begins ends_body true mark.CloseBrace (λ p. refl) y w m text
+
+  pub return_ends : (y : _) (w m : Tokens) → (Word keyword.Return ⋅ SpellsRightSide full ⋅ Sign mark.Semicolon ⋅ Sign mark.CloseBrace) y w → Anything m → BeginsWith ends_body (w ++ m)
+  return_ends y w m text follows = then-begins ends_body true (Word keyword.Return) (SpellsRightSide full ⋅ Sign mark.Semicolon ⋅ Sign mark.CloseBrace) (word_begins ends_body true keyword.Return (λ p. refl)) y w m text
+
+  pub a_body : (returns : Bool) → Sample (SpellsBody full returns)
+  a_body true = sample_of (λ p. (p.0, Some p.1.1.0)) (both (no_statements full) (both (the_word keyword.Return) (both (a_right full) (both (the_sign mark.Semicolon) (the_sign mark.CloseBrace)))))
+  a_body false = sample_of (λ p. (p.0, None)) (both (no_statements full) (the_sign mark.CloseBrace))
+
+  pub an_ending : (returns : Bool) → Sample (SpellsEnding full returns)
+  an_ending returns =
+      let s = both (the_sign mark.OpenBrace) (a_body returns) in
+      (Some s.0.1, s.1, inr (s.0, refl, s.2))
+
+  module _ (returns : Bool) (before : Tokens) where
+    pub body_left : (so : Bool) → returns ≡ so → Leaves (SpellsBody full returns) Anything before before (λ z. z) (SpellsBody full so)
+    body_left so is = subst (λ (b : Bool). Leaves (SpellsBody full returns) Anything before before (λ z. z) (SpellsBody full b)) is (all_left (SpellsBody full returns) Anything before)
+
+    pub prototype_there : (full && begins (is_mark mark.Semicolon) before) ≡ true → Leaves (SpellsEnding full returns) Anything before before (λ p. None) (Sign mark.Semicolon)
+    prototype_there there = unmake (in_full (at_first (all_left (SpellsEnding full returns) Anything before)
+        (by_test (made-begins (is_mark mark.Semicolon) false (Sign mark.OpenBrace ⋅ SpellsBody full returns) (λ p. Some p.1)
+        (then-begins (is_mark mark.Semicolon) false (Sign mark.OpenBrace) (SpellsBody full returns) (sign_begins (is_mark mark.Semicolon) false mark.OpenBrace (λ p. refl))))
+        (and_right full (begins (is_mark mark.Semicolon) before) there)))
+        (and_left full (begins (is_mark mark.Semicolon) before) there))
+
+    pub body_there : (full && begins (is_mark mark.Semicolon) before) ≡ false → Leaves (SpellsEnding full returns) Anything before before (λ p. Some p.1) (Sign mark.OpenBrace ⋅ SpellsBody full returns)
+    body_there none = unmake (at_second (all_left (SpellsEnding full returns) Anything before)
+        (by_full full (made-begins (is_mark mark.Semicolon) true (Sign mark.Semicolon) (λ p. None) (this_sign mark.Semicolon)) none))
+
+    pub body_stuck : {at : Tokens} → Stuck (SpellsStatements full) (BeginsWith ends_body) before at → Stuck (SpellsBody full returns) Anything before at
+    body_stuck {at = at} part = by_kind returns refl
+      where
+        by_kind : (so : Bool) → returns ≡ so → Stuck (SpellsBody full returns) Anything before at
+        by_kind true is = stuck_by (unmake (body_left true is)) return_ends (both (the_word keyword.Return) (both (a_right full) (both (the_sign mark.Semicolon) (the_sign mark.CloseBrace)))) part
+        by_kind false is = stuck_by (unmake (body_left false is)) close_ends (the_sign mark.CloseBrace) part
+
+    pub no_return_left : returns ≡ false → {at : Tokens} {all : List Statement} → Reached (SpellsStatements full) (BeginsWith ends_body) before at all → Leaves (SpellsBody full returns) Anything before at (λ p. (all, None)) (Sign mark.CloseBrace)
+    no_return_left is part = passed_by (unmake (body_left false is)) close_ends part
+
+    pub return_left : returns ≡ true → {at : Tokens} {all : List Statement} → Reached (SpellsStatements full) (BeginsWith ends_body) before at all → Leaves (SpellsBody full returns) Anything before at (λ p. (all, Some p.1.0)) (Word keyword.Return ⋅ SpellsRightSide full ⋅ Sign mark.Semicolon ⋅ Sign mark.CloseBrace)
+    return_left is part = passed_by (unmake (body_left true is)) return_ends part
+
+pub right-semicolon-close : (F : Tokens → Type 0) (y : Place × Place) (w m : Tokens) → (Sign mark.Semicolon ⋅ Sign mark.CloseBrace) y w → F m → RightEnds (w ++ m)
+right-semicolon-close F y w m text follows = then-begins right_goes_on false (Sign mark.Semicolon) (Sign mark.CloseBrace) (sign_begins right_goes_on false mark.Semicolon (λ p. refl)) y w m text
+
+pub some_parameters : (full : Bool) → Sample (SpellsParameters full)
+some_parameters full = let v = the_word keyword.Void in ([], v.1, inl (v.0, refl, v.2))

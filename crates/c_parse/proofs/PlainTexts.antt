@@ -1,0 +1,110 @@
+-- Statements without blocks, by the tokens that stand ahead.
+use Rattle.std.proofs.Common.{◌≡◌, ◌∙◌, refl, sym, ap, subst, Bool, true, false, ◌||◌, ◌&&◌, List, [], ◌∷◌, ◌++◌, drop, append_assoc, Some, None, inl, inr}
+use Rattle.std.specs.Prelude.{is_some, not}
+use Rattle.std.proofs.lemmas.Bool.{false≢true}
+use Rattle.std.proofs.lemmas.Option.{same_Some}
+use Rattle.c_parse.proofs.TokenKinds.{none-some}
+use Rattle.hw_text.specs.declared.place.Place.{Place}
+use Rattle.hw_text.specs.declared.placed.Placed.{Placed}
+use Rattle.hw_text.specs.Language.{◌⋅◌, ◌∣◌, Made, One}
+use Rattle.hw_text.specs.Reading.{first, begins, Begins, Anything, BeginsWithout, Reached, Stuck, Leaves}
+use Rattle.hw_text.proofs.Reading.{made-begins, then-begins, first-begins, one-reached}
+use Rattle.c_tree.specs.declared.expression.RightSide.{RightSide}
+use Rattle.c_tree.specs.declared.expression.Base.TheVariants as base
+use Rattle.c_tree.specs.declared.expression.Selector.{Selector}
+use Rattle.c_tree.specs.declared.expression.Lvalue.{Lvalue}
+use Rattle.c_tree.specs.declared.named.Named.{Named}
+use Rattle.c_tree.specs.declared.statement.Statement.{Statement}
+use Rattle.c_tree.specs.declared.type_name.TypeName.{TypeName}
+use Rattle.c_tree.specs.declared.type_name.TypeName.TheVariants as class
+use Rattle.c_parse.specs.declared.token.Token.{Token}
+use Rattle.c_parse.specs.declared.token.Token.TheVariants as token
+use Rattle.c_parse.specs.declared.keyword.Keyword.TheVariants as keyword
+use Rattle.c_parse.specs.declared.mark.Mark.TheVariants as mark
+use Rattle.c_parse.specs.Values.{Tokens, is_mark, is_word, is_name, is_plain_type, name_of, name_token}
+use Rattle.c_parse.specs.Operators.{is_selector}
+use Rattle.c_parse.specs.ExpressionGrammar.{Sign, Name, InFull, SpellsLvalue, lvalue, SpellsParts, no_part, a_member, an_index}
+use Rattle.c_parse.specs.CallGrammar.{Word, SpellsType, SpellsRightSide, SpellsCall, Separated, SpellsArgument}
+use Rattle.c_parse.specs.PlainGrammar.{SpellsLocal, SpellsLocalValue, SpellsAssignment, SpellsCallAlone, SpellsBreak, SpellsPlain}
+use Rattle.c_parse.proofs.TypeTexts.{defined-read}
+use Rattle.c_parse.proofs.TypedefTexts.{type_begins}
+use Rattle.c_parse.proofs.LocalTexts.{a_local_value}
+use Rattle.c_parse.proofs.RightTexts.{a_right, no_arguments, name_lvalue, lvalue_begins}
+use Rattle.c_parse.proofs.Steps.{both, all_left, at_first, at_second, in_full, by_test, by_full, either_way, and_left, and_right}
+use Rattle.c_parse.proofs.Leaves.{put, the_sign, the_name, sign_begins, word_begins, name_begins, integer_begins, this_word}
+use Rattle.c_parse.proofs.TwoAhead.{TwoAhead}
+
+pub lvalue-assign : {full : Bool} (y : Place × (RightSide × Place)) (w m : Tokens) → (Sign mark.Assign ⋅ SpellsRightSide full ⋅ Sign mark.Semicolon) y w → Anything m → BeginsWithout is_selector (w ++ m)
+lvalue-assign {full = full} y w m text follows = then-begins is_selector false (Sign mark.Assign) (SpellsRightSide full ⋅ Sign mark.Semicolon) (sign_begins is_selector false mark.Assign (λ p. refl)) y w m text
+
+module _ (test : Placed Token → Bool) (so : Bool) where
+  pub local-begins : (full : Bool) → Begins test so SpellsType → Begins test so (SpellsLocal full)
+  local-begins full is = made-begins test so _ _ (then-begins test so SpellsType (Name ⋅ SpellsLocalValue full ⋅ Sign mark.Semicolon) is)
+
+  pub assignment-begins : (full : Bool) → Begins test so Name → Begins test so (Sign mark.OpenParenthesis) → Begins test so (SpellsAssignment full)
+  assignment-begins full name opening = made-begins test so _ _
+      (then-begins test so (SpellsLvalue full) (Sign mark.Assign ⋅ SpellsRightSide full ⋅ Sign mark.Semicolon) (lvalue_begins test so full name opening))
+
+  pub call-begins : (full : Bool) → Begins test so Name → Begins test so (SpellsCall full)
+  call-begins full name = made-begins test so _ _ (then-begins test so Name _ name)
+
+  pub alone-begins : (full : Bool) → Begins test so Name → Begins test so (SpellsCallAlone full)
+  alone-begins full name = made-begins test so _ _ (then-begins test so (SpellsCall full) (Sign mark.Semicolon) (call-begins full name))
+
+  pub break-begins : Begins test so (Word keyword.Break) → Begins test so SpellsBreak
+  break-begins is = made-begins test so _ _ (then-begins test so (Word keyword.Break) (Sign mark.Semicolon) is)
+
+  pub full-begins : (full : Bool) → Begins test so (Word keyword.Break) → Begins test so (InFull full SpellsBreak)
+  full-begins full is y w m text = break-begins is y w m text.1
+
+-- a name that was read stands there
+pub name_before : {before at : Tokens} {x : Named} → Reached Name Anything before at x → before ≡ name_token x ∷ at
+name_before {before = before} {at = at} {x = x} so =
+    let t = so.spelled.0 in
+    so.split ∙ ap (λ (l : Tokens). l ++ at) so.spelled.1 ∙ ap (λ (u : Placed Token). u ∷ at) (itself t.token t.place so.spelled.2)
+  where
+    itself : (t : Token) (p : Place) → name_of (put t p) ≡ Some x → put t p ≡ name_token x
+    itself (token.Name n) p is = ap (λ (y : Named). name_token y) (same_Some _ _ is)
+    itself (token.Reserved n) p is = absurd (none-some x is)
+    itself (token.Literal n) p is = absurd (none-some x is)
+    itself (token.Mark n) p is = absurd (none-some x is)
+    itself (token.Keyword n) p is = absurd (none-some x is)
+
+pub name_never_stuck : {before at : Tokens} → begins is_name before ≡ true → Stuck Name Anything before at → ⊥
+name_never_stuck {before = before} {at = at} there so = at_list before there so.split
+  where
+    at_list : (l : Tokens) → begins is_name l ≡ true → l ≡ so.taken ++ at → ⊥
+    at_list [] there split = false≢true there
+    at_list (t ∷ l) there split = at_name (name_of t) refl there
+      where
+        at_name : (o : _) → name_of t ≡ o → is_some o ≡ true → ⊥
+        at_name None is some = false≢true some
+        at_name (Some x) is some = so.none x (t ∷ []) l at (t, refl, is) tt split refl
+
+module _ (x : Named) (at : Tokens) where
+  pub class_named : Reached SpellsType Anything (name_token x ∷ at) at (class.Defined x)
+  class_named = defined-read (name_token x ∷ at) at refl refl x (one-reached name_of Anything (name_token x ∷ at) at (name_token x) x refl refl refl)
+
+pub drop-one : (w us vs m : Tokens) (t : Placed Token) → w ≡ us ++ vs → us ≡ t ∷ [] → drop 1 (w ++ m) ≡ vs ++ m
+drop-one w us vs m t split one = ap (λ (l : Tokens). drop 1 (l ++ m)) (split ∙ ap (λ (l : Tokens). l ++ vs) one)
+
+one-token : (c : TypeName) (w : Tokens) → SpellsType c w → (t : Placed Token) × (w ≡ t ∷ [])
+one-token c w (inl text) = (text.2.0, text.2.1)
+one-token c w (inr (inl text)) = (text.2.0, text.2.1)
+one-token c w (inr (inr text)) = (text.2.0, text.2.1)
+
+-- what stands behind the first token of a statement that begins with a name
+module _ (test : Placed Token → Bool) (so : Bool) (full : Bool) where
+  pub local-second : Begins test so Name → (z : Statement) (w m : Tokens) → SpellsLocal full z w → begins test (drop 1 (w ++ m)) ≡ so
+  local-second is z w m text =
+      let parts = text.2 in
+      let one = one-token text.0.0 parts.0 parts.3 in
+      ap (begins test) (drop-one w parts.0 parts.1 m one.0 parts.2 one.1) ∙ then-begins test so Name (SpellsLocalValue full ⋅ Sign mark.Semicolon) is text.0.1 parts.1 m parts.4
+
+  pub alone-second : Begins test so (Sign mark.OpenParenthesis) → (z : Statement) (w m : Tokens) → SpellsCallAlone full z w → begins test (drop 1 (w ++ m)) ≡ so
+  alone-second is z w m text =
+      let parts = text.2 in
+      let call = parts.3.2 in
+      ap (λ (l : Tokens). begins test (drop 1 (l ++ m))) parts.2 ∙ ap (λ (l : Tokens). begins test (drop 1 l)) (append_assoc parts.0 parts.1 m)
+      ∙ ap (begins test) (drop-one parts.0 call.0 call.1 (parts.1 ++ m) call.3.0 call.2 call.3.1)
+      ∙ then-begins test so (Sign mark.OpenParenthesis) (Separated (SpellsArgument full) ⋅ Sign mark.CloseParenthesis) is parts.3.0.1 call.1 (parts.1 ++ m) call.4

@@ -1,0 +1,13 @@
+use Rattle.c_parse.proofs.Steps.{fails, made, passed, stuck_in, stuck_last, done}
+use Rattle.c_parse.proofs.Leaves.{the_sign}
+use Rattle.c_parse.specs.declared.mark.Mark.TheVariants as mark
+use Rattle.c_parse.proofs.plain.call_alone_behind.Goals as goal
+
+pub returns-in_err-call : goal.returns-in_err-call
+returns-in_err-call c = fails _ _ c.from_residual.ensures.1 c.in_err-call.ensures (stuck_in (made _ _ _ _) (the_sign mark.Semicolon))
+
+pub returns-in_err-sign : goal.returns-in_err-sign
+returns-in_err-sign c = fails _ _ c.from_residual-in_err-sign.ensures.1 c.in_err-sign.ensures (stuck_last (passed (made _ _ _ _) c.in_ok-call.ensures))
+
+pub returns : goal.returns
+returns c = done (passed (made _ _ _ _) c.in_ok-call.ensures) c.in_ok-sign.ensures

@@ -1,0 +1,17 @@
+use Rattle.c_parse.proofs.Steps.{fails, made, passed, passed_by, stuck_in, stuck_by, stuck_last, done, both}
+use Rattle.c_parse.proofs.Leaves.{the_sign}
+use Rattle.c_parse.specs.declared.mark.Mark.TheVariants as mark
+use Rattle.c_parse.proofs.LocalTexts.{right-semicolon, a_local_value}
+use Rattle.c_parse.proofs.plain.local_behind.Goals as goal
+
+pub returns-in_err-name : goal.returns-in_err-name
+returns-in_err-name c = fails _ _ c.from_residual.ensures.1 c.in_err-name.ensures (stuck_in (made _ _ _ _) (both ((a_local_value _)) (the_sign mark.Semicolon)))
+
+pub returns-in_err-value : goal.returns-in_err-value
+returns-in_err-value c = fails _ _ c.from_residual-in_err-value.ensures.1 c.in_err-value.ensures (stuck_by (passed (made _ _ _ _) c.in_ok-name.ensures) (right-semicolon _) (the_sign mark.Semicolon))
+
+pub returns-in_err-sign : goal.returns-in_err-sign
+returns-in_err-sign c = fails _ _ c.from_residual-in_err-sign.ensures.1 c.in_err-sign.ensures (stuck_last (passed_by (passed (made _ _ _ _) c.in_ok-name.ensures) (right-semicolon _) c.in_ok-value.ensures))
+
+pub returns : goal.returns
+returns c = done (passed_by (passed (made _ _ _ _) c.in_ok-name.ensures) (right-semicolon _) c.in_ok-value.ensures) c.in_ok-sign.ensures
