@@ -1,4 +1,5 @@
 mod right_sides;
+mod units;
 
 use super::*;
 use hw_text::Place;
