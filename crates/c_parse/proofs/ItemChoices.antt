@@ -178,10 +178,10 @@ module _ (full : Bool) where
     | inr (inl a) ↦ extern-begins any_token true (word_begins any_token true keyword.Extern (λ p. refl)) z w m a.1
     | inr (inr (inl a)) ↦ pointer-begins any_token true (word_begins any_token true keyword.Volatile (λ p. refl)) z w m a.1
     | inr (inr (inr a)) ↦
-    declared-begins any_token true (word_begins any_token true keyword.Static (λ p. refl)) (word_begins any_token true keyword.Void (λ p. refl))
-    (type_begins any_token true
-    (integer_begins any_token true (λ p. refl) (λ p. refl) (λ p. refl) (λ p. refl) (λ p. refl) (λ p. refl) (λ p. refl) (λ p. refl))
-    (word_begins any_token true keyword.Bool (λ p. refl)) (name_begins any_token true (λ n p. refl))) z w m a
+        declared-begins any_token true (word_begins any_token true keyword.Static (λ p. refl)) (word_begins any_token true keyword.Void (λ p. refl))
+        (type_begins any_token true
+        (integer_begins any_token true (λ p. refl) (λ p. refl) (λ p. refl) (λ p. refl) (λ p. refl) (λ p. refl) (λ p. refl) (λ p. refl))
+        (word_begins any_token true keyword.Bool (λ p. refl)) (name_begins any_token true (λ n p. refl))) z w m a
   ]
 
   pub items_listed : Listed (SpellsItem full) any_token true Anything TheEnd
