@@ -15,10 +15,7 @@ const BAD_BYTES: [(&[u8], &[u8]); 10] = [
     (b"\x0c", b"refused m 1:1 BadByte\n"),
     (b"\t\x1f", b"refused m 1:2 BadByte\n"),
     (b"-- \xff\x7f\r\n \xc3\xa9", b"refused m 2:2 BadByte\n"),
-    (
-        b"package P public end P;\x7f",
-        b"refused m 1:24 BadByte\n",
-    ),
+    (b"package P public end P;\x7f", b"refused m 1:24 BadByte\n"),
     (
         b"package P public device D properties a => \"x\xffy\";",
         b"refused m 1:45 BadByte\n",
@@ -116,10 +113,7 @@ const LEFT_OUT: [(&[u8], &[u8]); 9] = [
         b"package P public device D EXTENDS E",
         b"refused m 1:27 Unsupported extends\n",
     ),
-    (
-        b"package in public",
-        b"refused m 1:9 Unsupported in\n",
-    ),
+    (b"package in public", b"refused m 1:9 Unsupported in\n"),
     (
         b"package P public abstract A",
         b"refused m 1:18 Unsupported abstract\n",
@@ -151,11 +145,31 @@ const LEFT_OUT: [(&[u8], &[u8]); 9] = [
 const DEEP: [(&str, usize, &str, &[u8]); 8] = [
     ("a => ", 65, "(", b"refused m 1:107 Limit nesting 65 64\n"),
     ("a => ", 66, "(", b"refused m 1:107 Limit nesting 65 64\n"),
-    ("a => ", 33, "([b => ", b"refused m 1:267 Limit nesting 65 64\n"),
-    ("a => [b => ", 64, "(", b"refused m 1:112 Limit nesting 65 64\n"),
-    ("a => b, ", 1000, "(", b"refused m 1:110 Limit nesting 65 64\n"),
+    (
+        "a => ",
+        33,
+        "([b => ",
+        b"refused m 1:267 Limit nesting 65 64\n",
+    ),
+    (
+        "a => [b => ",
+        64,
+        "(",
+        b"refused m 1:112 Limit nesting 65 64\n",
+    ),
+    (
+        "a => b, ",
+        1000,
+        "(",
+        b"refused m 1:110 Limit nesting 65 64\n",
+    ),
     ("a => \n", 65, "(", b"refused m 2:65 Limit nesting 65 64\n"),
-    ("a => ((1), ", 64, "(", b"refused m 1:112 Limit nesting 65 64\n"),
+    (
+        "a => ((1), ",
+        64,
+        "(",
+        b"refused m 1:112 Limit nesting 65 64\n",
+    ),
     ("a => ()", 64, "(", b"refused m 1:45 Syntax\n"),
 ];
 
