@@ -31,6 +31,8 @@ mod sections;
 mod symbols;
 mod table;
 mod terminals;
+#[cfg(test)]
+mod tests;
 mod token;
 mod whole;
 mod word;
