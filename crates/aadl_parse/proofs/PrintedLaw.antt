@@ -1,5 +1,5 @@
 -- What is printed of a package is read as the same package but for places.
-use Rattle.std.proofs.Common.{◌≡◌, ◌≤◌, ℕ, zero, suc, Bool, true, false, nat_lt, List, [], ◌∷◌, map, take, slice_get, option_and_then, Option, Some, None, Result, Ok, Err, IfOk, refl, sym, ap, ◌∙◌, subst, arith, cond}
+use Rattle.std.proofs.Common.{◌≡◌, ◌≤◌, ℕ, zero, suc, Bool, List, [], ◌∷◌, take, slice_get, option_and_then, Some, None, Result, Ok, Err, IfOk, refl, sym, ap, subst, cond}
 use Rattle.std.proofs.lemmas.Bool.{false≢true, le-ltb}
 use Rattle.std.proofs.lemmas.List.Elements.{All-head, All-tail}
 use Rattle.hw_text.specs.declared.fault.Fault.{Fault}
@@ -11,12 +11,11 @@ use Rattle.aadl_tree.specs.declared.token.Token.TheVariants as token
 use Rattle.aadl_tree.specs.Allowed.{IsAllowed, AreAllowed}
 use Rattle.aadl_tree.specs.Layout.{canonical_text}
 use Rattle.aadl_tree.specs.Packages.{package_tokens}
-use Rattle.aadl_tree.specs.Unplaced.{unplaced_package, SamePackage}
+use Rattle.aadl_tree.specs.Unplaced.{SamePackage}
 use Rattle.aadl_tree.proofs.ApartPackages.{package-apart}
 use Rattle.aadl_tree.proofs.LaidOut.{laid_out}
-use Rattle.aadl_parse.specs.declared.flaw.Flaw.{Flaw}
 use Rattle.aadl_parse.specs.declared.flaw.Flaw.TheVariants as flaw
-use Rattle.aadl_parse.specs.Flaws.{open_behind_mark, open_behind_token, open_behind, flaw_of, flaw_at}
+use Rattle.aadl_parse.specs.Flaws.{open_behind_mark, open_behind_token, open_behind, flaw_of}
 use Rattle.aadl_parse.specs.Grammar.{SpellsPackage}
 use Rattle.aadl_parse.specs.Printed.{at_start, IsWithinLimits}
 use Rattle.aadl_parse.specs.Refusals.{IsTextOf, IsAccepted, IsRejected, IfRefused}

@@ -1,42 +1,29 @@
 -- The canonical tokens of categories, directions and kinds of ports spell them.
-use Rattle.std.proofs.Common.{◌≡◌, ℕ, List, [], ◌∷◌, ◌++◌, map, codes, Option, Some, None, refl, ap, sym, ◌∙◌, append_assoc}
-use Rattle.std.specs.Prelude.{⊤}
-use Rattle.std.specs.List.{flat_map}
-use Rattle.std.specs.Option.{option_map}
-use Rattle.hw_text.specs.declared.place.Place.{Place}
+use Rattle.std.proofs.Common.{◌≡◌, List, [], ◌∷◌, codes, refl}
 use Rattle.hw_text.specs.declared.placed.Placed.{Placed}
-use Rattle.hw_text.specs.Language.{One, ◌⋅◌, Maybe, Each, Made}
-use Rattle.aadl_tree.specs.declared.annex.Annex.{Annex}
-use Rattle.aadl_tree.specs.declared.association.Association.{Association}
+use Rattle.hw_text.specs.Language.{One, ◌⋅◌, Made}
 use Rattle.aadl_tree.specs.declared.category.Category.{Category}
 use Rattle.aadl_tree.specs.declared.category.Category.TheVariants as category
 use Rattle.aadl_tree.specs.declared.class.Class.{Class}
-use Rattle.aadl_tree.specs.declared.connection.Connection.{Connection}
-use Rattle.aadl_tree.specs.declared.connection.ConnectionEnd.{ConnectionEnd}
 use Rattle.aadl_tree.specs.declared.feature.Direction.{Direction}
 use Rattle.aadl_tree.specs.declared.feature.Direction.TheVariants as direction
-use Rattle.aadl_tree.specs.declared.feature.Feature.{Feature}
 use Rattle.aadl_tree.specs.declared.feature.PortKind.{PortKind}
 use Rattle.aadl_tree.specs.declared.feature.PortKind.TheVariants as kind
 use Rattle.aadl_tree.specs.declared.mark.Mark.TheVariants as mark
-use Rattle.aadl_tree.specs.declared.names.Named.{Named}
-use Rattle.aadl_tree.specs.declared.subcomponent.Subcomponent.{Subcomponent}
 use Rattle.aadl_tree.specs.declared.token.Token.{Token}
 use Rattle.aadl_tree.specs.declared.token.Token.TheVariants as token
-use Rattle.aadl_tree.specs.declared.word.Word.{Word}
 use Rattle.aadl_tree.specs.declared.word.Word.TheVariants as word
-use Rattle.aadl_tree.specs.Canonical.{category_word, maybe_behind_dot, class_tokens, section_tokens}
-use Rattle.aadl_tree.specs.Packages.{own_tokens, direction_word, kind_tokens, feature_tokens, subcomponent_tokens, end_tokens, connection_tokens, annex_token, annex_tokens}
-use Rattle.aadl_tree.specs.Unplaced.{origin, unplaced_named, unplaced_class, unplaced_own, unplaced_kind, unplaced_feature, unplaced_subcomponent, unplaced_end, unplaced_connection, unplaced_annex}
+use Rattle.aadl_tree.specs.Canonical.{category_word, class_tokens}
+use Rattle.aadl_tree.specs.Packages.{direction_word, kind_tokens}
+use Rattle.aadl_tree.specs.Unplaced.{unplaced_class, unplaced_kind}
 use Rattle.aadl_parse.specs.declared.choice.Choice.{Choice}
 use Rattle.aadl_parse.specs.declared.choice.Choice.TheVariants.{First, Second}
-use Rattle.aadl_parse.specs.Builds.{either_of, section_of, or_none, listed, data_kind_of, event_data_kind_of, event_kind_of, events_of, feature_of, subcomponent_of, connection_end_of, DestinationParts, connection_of, members_behind, annex_of}
-use Rattle.aadl_parse.specs.Grammar.{SpellsEnding, SpellsDataKind, SpellsEventKinds, SpellsKind, SpellsFeature, SpellsSubcomponent, SpellsEnd, SpellsDestination, SpellsConnection, SpellsNone, Section, SpellsAnnex}
+use Rattle.aadl_parse.specs.Builds.{either_of, data_kind_of, event_data_kind_of, event_kind_of, events_of}
+use Rattle.aadl_parse.specs.Grammar.{SpellsDataKind, SpellsEventKinds, SpellsKind}
 use Rattle.aadl_parse.specs.SimpleValue.{Symbol, SpellsClass, Either}
-use Rattle.aadl_parse.specs.Shapes.{symbol_of}
-use Rattle.aadl_parse.specs.Terminals.{named_of, category_of, direction_of, annex_body_of}
-use Rattle.aadl_parse.proofs.Respelled.{Spelled, at_place, spelled-by, then, made, one, symbol, not-there, there, each, either_bare, first, second}
-use Rattle.aadl_parse.proofs.RespelledNames.{named, BehindDot, maybe_dot, class}
+use Rattle.aadl_parse.specs.Terminals.{category_of, direction_of}
+use Rattle.aadl_parse.proofs.Respelled.{Spelled, then, made, one, symbol, either_bare, first, second}
+use Rattle.aadl_parse.proofs.RespelledNames.{class}
 
 pub a_category : (c : Category) → Spelled (One category_of) (λ x. x) c (token.Word (category_word c) ∷ [])
 a_category category.Data = one category_of (λ x. x) category.Data (token.Word word.Data) (λ at. category.Data) (λ at. refl) (λ at. refl)

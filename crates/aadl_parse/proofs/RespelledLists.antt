@@ -1,9 +1,9 @@
 -- The canonical tokens of values with parts spell them, and so those of all values.
-use Rattle.std.proofs.Common.{◌≡◌, inl, inr, ℕ, Bool, true, false, List, [], ◌∷◌, ◌++◌, map, codes, Option, Some, None, refl, ap, sym, ◌∙◌}
+use Rattle.std.proofs.Common.{◌≡◌, inl, inr, ℕ, List, [], ◌∷◌, ◌++◌, map, codes, Option, Some, None, refl, sym}
 use Rattle.std.specs.List.{flat_map}
 use Rattle.std.specs.Option.{option_map}
 use Rattle.hw_text.specs.declared.placed.Placed.{Placed}
-use Rattle.hw_text.specs.Language.{One, ◌⋅◌, Maybe, Each, Made}
+use Rattle.hw_text.specs.Language.{One, ◌⋅◌, Maybe, Each}
 use Rattle.aadl_tree.specs.declared.class.Class.{Class}
 use Rattle.aadl_tree.specs.declared.mark.Mark.TheVariants as mark
 use Rattle.aadl_tree.specs.declared.names.Path.{Path}
@@ -19,11 +19,11 @@ use Rattle.aadl_tree.specs.Values.{separated, classifier_tokens, reference_token
 use Rattle.aadl_tree.proofs.UnplacedValues.{unplaced_value-List, unplaced_value-Record, unplaced_value-Classifier, unplaced_value-Reference, unplaced_field-of}
 use Rattle.aadl_tree.proofs.ValueInduction.{OfEach, OfField, of_each_value}
 use Rattle.aadl_tree.proofs.ValueLemmas.{value_tokens-List, value_tokens-Record, value_tokens-Classifier, value_tokens-Reference, field_tokens-of}
-use Rattle.aadl_parse.specs.SimpleValue.{Symbol, classifier_value, reference_value, SpellsClass, SpellsPath, SpellsClassifier, SpellsReference, SpellsReferring, SpellsSimple, before_sign, SpellsFieldName}
+use Rattle.aadl_parse.specs.SimpleValue.{Symbol, classifier_value, reference_value, SpellsClass, SpellsPath, SpellsClassifier, SpellsReference, SpellsSimple, before_sign, SpellsFieldName}
 use Rattle.aadl_parse.specs.Terminals.{name_of}
 use Rattle.aadl_parse.specs.ValueForms.{list_of, set_of, ListForm, SetForm, shut}
 use Rattle.aadl_parse.specs.ValueText.{SpellsValue, simple, second_of, SpellsNext, first_of, SpellsFirst, members_of, SpellsEach, field_of, SpellsField}
-use Rattle.aadl_parse.proofs.Respelled.{Spelled, spelled-by, then, made, one, symbol, there, not-there, each-of}
+use Rattle.aadl_parse.proofs.Respelled.{Spelled, spelled-by, then, made, symbol, there, not-there, each-of}
 use Rattle.aadl_parse.proofs.RespelledNames.{plain_name, path, class}
 use Rattle.aadl_parse.proofs.RespelledValues.{Simple, this, that, referring, a_quantity, a_range, a_text, a_truth, a_name}
 

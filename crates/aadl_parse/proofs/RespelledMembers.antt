@@ -1,5 +1,5 @@
 -- The canonical tokens of associations and of the members of components spell them.
-use Rattle.std.proofs.Common.{◌≡◌, ℕ, Bool, true, false, is_some, List, [], ◌∷◌, ◌++◌, map, codes, Option, Some, None, refl, ap, sym, ◌∙◌, append_assoc}
+use Rattle.std.proofs.Common.{◌≡◌, Bool, true, false, is_some, List, [], ◌∷◌, ◌++◌, map, codes, Option, Some, None, refl, ap, ◌∙◌, append_assoc}
 use Rattle.std.specs.Prelude.{⊤}
 use Rattle.std.specs.List.{flat_map}
 use Rattle.std.specs.Option.{option_map}
@@ -13,7 +13,6 @@ use Rattle.aadl_tree.specs.declared.names.Path.{Path}
 use Rattle.aadl_tree.specs.declared.names.QualifiedName.{QualifiedName}
 use Rattle.aadl_tree.specs.declared.token.Token.{Token}
 use Rattle.aadl_tree.specs.declared.token.Token.TheVariants as token
-use Rattle.aadl_tree.specs.declared.value.PropertyValue.{PropertyValue}
 use Rattle.aadl_tree.specs.declared.word.Word.TheVariants as word
 use Rattle.aadl_tree.specs.Canonical.{behind_comma, qualified_tokens, path_tokens}
 use Rattle.aadl_tree.specs.Packages.{own_tokens}

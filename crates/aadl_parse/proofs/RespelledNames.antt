@@ -1,5 +1,5 @@
 -- The canonical tokens of names and classifiers spell them.
-use Rattle.std.proofs.Common.{◌≡◌, inl, inr, ℕ, List, [], ◌∷◌, ◌++◌, codes, Option, Some, None, refl, ap}
+use Rattle.std.proofs.Common.{◌≡◌, inl, inr, ℕ, List, [], ◌∷◌, codes, Option, Some, None, refl, ap}
 use Rattle.std.specs.List.{flat_map}
 use Rattle.std.specs.Option.{option_map}
 use Rattle.hw_text.specs.declared.place.Place.{Place}
@@ -22,7 +22,7 @@ use Rattle.aadl_tree.specs.Classes.{base_name}
 use Rattle.aadl_tree.specs.Unplaced.{origin, unplaced_named, unplaced_qualified, unplaced_path, unplaced_class}
 use Rattle.aadl_tree.proofs.OwnNames.{own_name_of}
 use Rattle.aadl_parse.specs.declared.choice.Choice.TheVariants.{First, Second}
-use Rattle.aadl_parse.specs.SimpleValue.{Symbol, name_behind, qualified_of, SpellsQualified, path_of, SpellsPath, base_class_of, model_class_of, first_class, second_class, SpellsClass}
+use Rattle.aadl_parse.specs.SimpleValue.{Symbol, name_behind, qualified_of, SpellsQualified, path_of, SpellsPath, base_class_of, model_class_of, SpellsClass}
 use Rattle.aadl_parse.specs.Terminals.{named_of, name_of, base_package_of, class_name_of, base_named, base_of}
 use Rattle.aadl_parse.proofs.Respelled.{Spelled, then, made, one, symbol, not-there-plain, there-plain, each-plain}
 

@@ -1,10 +1,10 @@
 -- The canonical tokens of component types spell them; and what their parts and those of implementations are without their places.
-use Rattle.std.proofs.Common.{◌≡◌, ℕ, List, [], ◌∷◌, ◌++◌, map, codes, Option, Some, None, refl, ap, sym, ◌∙◌, append_assoc}
+use Rattle.std.proofs.Common.{◌≡◌, List, [], ◌∷◌, ◌++◌, map, codes, Option, refl, ap, ◌∙◌}
 use Rattle.std.specs.Prelude.{⊤}
 use Rattle.std.specs.List.{flat_map}
 use Rattle.std.specs.Option.{option_map}
 use Rattle.hw_text.specs.declared.placed.Placed.{Placed}
-use Rattle.hw_text.specs.Language.{One, ◌⋅◌, Maybe, Each, Made}
+use Rattle.hw_text.specs.Language.{One, ◌⋅◌, Maybe, Each}
 use Rattle.aadl_tree.specs.declared.annex.Annex.{Annex}
 use Rattle.aadl_tree.specs.declared.association.Association.{Association}
 use Rattle.aadl_tree.specs.declared.category.Category.{Category}
@@ -14,30 +14,22 @@ use Rattle.aadl_tree.specs.declared.connection.Connection.{Connection}
 use Rattle.aadl_tree.specs.declared.feature.Feature.{Feature}
 use Rattle.aadl_tree.specs.declared.mark.Mark.TheVariants as mark
 use Rattle.aadl_tree.specs.declared.names.ImplementationName.{ImplementationName}
-use Rattle.aadl_tree.specs.declared.names.Named.{Named}
-use Rattle.aadl_tree.specs.declared.names.QualifiedName.{QualifiedName}
-use Rattle.aadl_tree.specs.declared.package.Declaration.{Declaration}
-use Rattle.aadl_tree.specs.declared.package.Declaration.TheVariants as declaration
-use Rattle.aadl_tree.specs.declared.package.Import.{Import}
-use Rattle.aadl_tree.specs.declared.package.Package.{Package}
 use Rattle.aadl_tree.specs.declared.subcomponent.Subcomponent.{Subcomponent}
 use Rattle.aadl_tree.specs.declared.token.Token.{Token}
 use Rattle.aadl_tree.specs.declared.token.Token.TheVariants as token
 use Rattle.aadl_tree.specs.declared.word.Word.TheVariants as word
-use Rattle.aadl_tree.specs.Canonical.{category_word, behind_comma, behind_dot, qualified_tokens, implementation_name_tokens, section_tokens}
-use Rattle.aadl_tree.specs.Packages.{feature_tokens, subcomponent_tokens, connection_tokens, annex_tokens, type_tokens, implementation_tokens, declaration_tokens, import_tokens, package_tokens}
-use Rattle.aadl_tree.specs.Unplaced.{unplaced_named, unplaced_qualified, unplaced_implementation_name, unplaced_association, unplaced_feature, unplaced_subcomponent, unplaced_connection, unplaced_annex, unplaced_type, unplaced_implementation, unplaced_declaration, unplaced_import, unplaced_package}
+use Rattle.aadl_tree.specs.Canonical.{behind_dot, implementation_name_tokens, section_tokens}
+use Rattle.aadl_tree.specs.Packages.{feature_tokens, subcomponent_tokens, connection_tokens, annex_tokens}
+use Rattle.aadl_tree.specs.Unplaced.{unplaced_named, unplaced_implementation_name, unplaced_association, unplaced_feature, unplaced_subcomponent, unplaced_connection, unplaced_annex, unplaced_type, unplaced_implementation}
 use Rattle.aadl_tree.specs.Values.{association_tokens}
-use Rattle.aadl_parse.specs.declared.choice.Choice.{Choice}
-use Rattle.aadl_parse.specs.declared.choice.Choice.TheVariants.{First, Second}
-use Rattle.aadl_parse.specs.Builds.{or_none, implementation_name_of, TypeParts, type_of, ImplementationParts, implementation_of, ComponentParts, declaration_of, import_of, BodyParts, package_of}
-use Rattle.aadl_parse.specs.Grammar.{BehindComma, SpellsAssociation, SpellsFeature, SpellsSubcomponent, SpellsConnection, SpellsFeatures, SpellsSubcomponents, SpellsConnections, SpellsProperties, SpellsAnnex, SpellsImplementationName, SpellsTypeBody, SpellsImplementationBody, SpellsComponent, SpellsDeclaration, SpellsImport, SpellsBody, SpellsPackage}
-use Rattle.aadl_parse.specs.SimpleValue.{Symbol, SpellsQualified, Either}
-use Rattle.aadl_parse.specs.Terminals.{named_of, category_of}
-use Rattle.aadl_parse.proofs.Respelled.{Spelled, spelled-by, then, made, one, symbol, each, either_bare, first, second}
+use Rattle.aadl_parse.specs.Builds.{or_none, implementation_name_of, TypeParts, type_of, ImplementationParts, implementation_of}
+use Rattle.aadl_parse.specs.Grammar.{SpellsAssociation, SpellsFeature, SpellsSubcomponent, SpellsConnection, SpellsFeatures, SpellsSubcomponents, SpellsConnections, SpellsProperties, SpellsAnnex, SpellsImplementationName, SpellsTypeBody}
+use Rattle.aadl_parse.specs.SimpleValue.{Symbol}
+use Rattle.aadl_parse.specs.Terminals.{named_of}
+use Rattle.aadl_parse.proofs.Respelled.{Spelled, then, made, symbol, each}
 use Rattle.aadl_parse.proofs.RespelledComponents.{feature, subcomponent, connection, annex, section}
-use Rattle.aadl_parse.proofs.RespelledMembers.{semicolon, further, or_none-map, association}
-use Rattle.aadl_parse.proofs.RespelledNames.{named, BehindDot, dot, qualified}
+use Rattle.aadl_parse.proofs.RespelledMembers.{semicolon, or_none-map, association}
+use Rattle.aadl_parse.proofs.RespelledNames.{named, BehindDot, dot}
 
 -- one after the other, each without its places
 abbrev pub both_bare : {X Y : Type 0} → (X → X) → (Y → Y) → X × Y → X × Y

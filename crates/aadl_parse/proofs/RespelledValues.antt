@@ -1,14 +1,10 @@
 -- The canonical tokens of values spell them.
-use Rattle.std.proofs.Common.{◌≡◌, inl, inr, ℕ, Bool, true, false, List, [], ◌∷◌, ◌++◌, map, codes, Option, Some, None, refl, ap, sym, ◌∙◌, append_assoc}
+use Rattle.std.proofs.Common.{◌≡◌, inl, inr, ℕ, Bool, true, false, List, [], ◌∷◌, ◌++◌, codes, Option, Some, None, refl, ap, sym, ◌∙◌}
 use Rattle.std.proofs.lemmas.List.{append-nil}
 use Rattle.std.specs.Prelude.{⊤}
-use Rattle.std.specs.List.{flat_map}
-use Rattle.std.specs.Option.{option_map}
 use Rattle.hw_text.specs.declared.placed.Placed.{Placed}
-use Rattle.hw_text.specs.Language.{One, ◌⋅◌, Maybe, Each, Made}
-use Rattle.aadl_tree.specs.declared.class.Class.{Class}
+use Rattle.hw_text.specs.Language.{One, ◌⋅◌, Maybe, Made}
 use Rattle.aadl_tree.specs.declared.mark.Mark.TheVariants as mark
-use Rattle.aadl_tree.specs.declared.names.Path.{Path}
 use Rattle.aadl_tree.specs.declared.names.QualifiedName.{QualifiedName}
 use Rattle.aadl_tree.specs.declared.token.Token.{Token}
 use Rattle.aadl_tree.specs.declared.token.Token.TheVariants as token
@@ -17,25 +13,21 @@ use Rattle.aadl_tree.specs.declared.value.Number.TheVariants as number
 use Rattle.aadl_tree.specs.declared.value.PropertyValue.{PropertyValue}
 use Rattle.aadl_tree.specs.declared.value.PropertyValue.TheVariants as value
 use Rattle.aadl_tree.specs.declared.value.Quantity.{Quantity}
-use Rattle.aadl_tree.specs.declared.value.RecordField.{RecordField}
 use Rattle.aadl_tree.specs.declared.value.Sign.{Sign}
 use Rattle.aadl_tree.specs.declared.value.Sign.TheVariants as sign
 use Rattle.aadl_tree.specs.declared.word.Word.TheVariants as word
-use Rattle.aadl_tree.specs.Canonical.{behind_comma, qualified_tokens, path_tokens, class_tokens}
-use Rattle.aadl_tree.specs.Unplaced.{unplaced_qualified, unplaced_path, unplaced_class, unplaced_value, unplaced_field}
-use Rattle.aadl_tree.specs.Values.{sign_tokens, number_token, unit_tokens, quantity_tokens, truth_token, separated, range_tokens, classifier_tokens, reference_tokens, value_tokens, field_tokens}
-use Rattle.aadl_tree.proofs.UnplacedValues.{unplaced_value-Quantity, unplaced_value-Range, unplaced_value-Text, unplaced_value-Truth, unplaced_value-Name, unplaced_value-List, unplaced_value-Record, unplaced_value-Classifier, unplaced_value-Reference, unplaced_field-of}
-use Rattle.aadl_tree.proofs.ValueInduction.{OfEach, OfField, of_each_value}
-use Rattle.aadl_tree.proofs.ValueLemmas.{value_tokens-Quantity, value_tokens-Range, value_tokens-Text, value_tokens-Truth, value_tokens-Name, value_tokens-List, value_tokens-Record, value_tokens-Classifier, value_tokens-Reference, field_tokens-of}
+use Rattle.aadl_tree.specs.Canonical.{qualified_tokens}
+use Rattle.aadl_tree.specs.Unplaced.{unplaced_qualified, unplaced_value}
+use Rattle.aadl_tree.specs.Values.{sign_tokens, number_token, unit_tokens, quantity_tokens, truth_token, value_tokens}
+use Rattle.aadl_tree.proofs.UnplacedValues.{unplaced_value-Quantity, unplaced_value-Range, unplaced_value-Name}
+use Rattle.aadl_tree.proofs.ValueLemmas.{value_tokens-Quantity, value_tokens-Range, value_tokens-Text, value_tokens-Truth, value_tokens-Name}
 use Rattle.aadl_parse.specs.Builds.{either_of}
 use Rattle.aadl_parse.specs.declared.choice.Choice.TheVariants.{First, Second}
-use Rattle.aadl_parse.specs.SimpleValue.{Symbol, quantity_of, SpellsQuantity, range_of, SpellsRange, truth_value, name_value, SpellsQualified, SpellsPath, SpellsClass, classifier_value, reference_value, SpellsClassifier, SpellsReference, Either, SpellsNameValue, SpellsTextValue, SpellsTruthValue, SpellsReferring, SpellsNaming, SpellsTelling, SpellsQuoting, SpellsSimple, before_sign, SpellsFieldName}
+use Rattle.aadl_parse.specs.SimpleValue.{Symbol, quantity_of, SpellsQuantity, range_of, SpellsRange, truth_value, name_value, SpellsQualified, Either, SpellsNameValue, SpellsTextValue, SpellsTruthValue, SpellsReferring, SpellsNaming, SpellsTelling, SpellsQuoting, SpellsSimple}
 use Rattle.aadl_parse.specs.Terminals.{name_of}
-use Rattle.aadl_parse.specs.ValueForms.{list_of, set_of, ListForm, SetForm, shut}
-use Rattle.aadl_parse.specs.ValueText.{SpellsValue, second_of, SpellsNext, first_of, SpellsFirst, members_of, SpellsEach, field_of, SpellsField}
 use Rattle.aadl_parse.specs.ValueTokens.{sign_of, number_of, text_of, truth_of}
-use Rattle.aadl_parse.proofs.Respelled.{Spelled, spelled-by, then, made, one, symbol, there, not-there, not-there-plain, there-plain, each-of}
-use Rattle.aadl_parse.proofs.RespelledNames.{plain_name, qualified, path, class}
+use Rattle.aadl_parse.proofs.Respelled.{Spelled, spelled-by, then, made, one, symbol, not-there-plain, there-plain}
+use Rattle.aadl_parse.proofs.RespelledNames.{plain_name, qualified}
 
 a_sign : (o : Option Sign) → Spelled (Maybe (One sign_of)) (λ s. s) o (sign_tokens o)
 a_sign None = not-there-plain (One sign_of)

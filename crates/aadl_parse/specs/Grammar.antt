@@ -5,23 +5,18 @@ use Rattle.hw_text.specs.declared.placed.Placed.{Placed}
 use Rattle.hw_text.specs.Language.{One, ◌⋅◌, Maybe, Each, Made}
 use Rattle.aadl_tree.specs.declared.annex.Annex.{Annex}
 use Rattle.aadl_tree.specs.declared.association.Association.{Association}
-use Rattle.aadl_tree.specs.declared.association.Operator.{Operator}
-use Rattle.aadl_tree.specs.declared.category.Category.{Category}
 use Rattle.aadl_tree.specs.declared.connection.Connection.{Connection}
 use Rattle.aadl_tree.specs.declared.connection.ConnectionEnd.{ConnectionEnd}
 use Rattle.aadl_tree.specs.declared.feature.Feature.{Feature}
 use Rattle.aadl_tree.specs.declared.feature.PortKind.{PortKind}
 use Rattle.aadl_tree.specs.declared.names.ImplementationName.{ImplementationName}
 use Rattle.aadl_tree.specs.declared.names.Path.{Path}
-use Rattle.aadl_tree.specs.declared.names.QualifiedName.{QualifiedName}
 use Rattle.aadl_tree.specs.declared.package.Declaration.{Declaration}
 use Rattle.aadl_tree.specs.declared.package.Import.{Import}
 use Rattle.aadl_tree.specs.declared.package.Package.{Package}
 use Rattle.aadl_tree.specs.declared.subcomponent.Subcomponent.{Subcomponent}
 use Rattle.aadl_tree.specs.declared.token.Token.{Token}
-use Rattle.aadl_tree.specs.declared.value.PropertyValue.{PropertyValue}
-use Rattle.aadl_parse.specs.declared.choice.Choice.{Choice}
-use Rattle.aadl_parse.specs.Builds.{behind_mark, behind_words, listed, own_of, ending_of, association_of, SettingParts, data_kind_of, event_data_kind_of, event_kind_of, events_of, either_of, feature_of, subcomponent_of, connection_end_of, connection_of, DestinationParts, nothing_of, section_of, members_behind, annex_of, implementation_name_of, TypeParts, ImplementationParts, ComponentParts, declaration_of, import_of, package_of, BodyParts}
+use Rattle.aadl_parse.specs.Builds.{behind_mark, behind_words, listed, own_of, ending_of, association_of, SettingParts, data_kind_of, event_data_kind_of, event_kind_of, events_of, either_of, feature_of, subcomponent_of, connection_end_of, connection_of, DestinationParts, nothing_of, members_behind, annex_of, implementation_name_of, TypeParts, ImplementationParts, ComponentParts, declaration_of, import_of, package_of, BodyParts}
 use Rattle.aadl_parse.specs.SimpleValue.{Symbol, SpellsQualified, SpellsPath, SpellsClass, Either, name_behind}
 use Rattle.aadl_parse.specs.Terminals.{named_of, name_of, category_of, direction_of, annex_body_of, operator_of}
 use Rattle.aadl_parse.specs.ValueText.{SpellsValue}
