@@ -15,6 +15,8 @@ pub mod NumberTokens
 pub mod OneReading
 pub mod OperandForms
 pub mod OperandSteps
+pub mod Phrases
+pub mod Pieces
 pub mod PortForms
 pub mod Runs
 pub mod Samples
@@ -30,3 +32,6 @@ pub mod Verdicts
 pub mod Wholes
 pub mod WordTokens
 pub mod Written
+pub mod WrittenContracts
+pub mod WrittenExpressions
+pub mod WrittenOperands
