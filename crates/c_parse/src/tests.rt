@@ -1,5 +1,7 @@
+mod generated;
 mod right_sides;
 mod units;
+mod whole_texts;
 
 use super::*;
 use hw_text::Place;

@@ -1,0 +1,69 @@
+//! The reading of whole lists of tokens.
+
+ghost use Rattle.std.specs.Prelude.{◌≡◌, IfOk};
+ghost use Rattle.hw_text.specs.Reading.{Reads, TheEnd};
+ghost use Rattle.c_parse.specs.UnitGrammar.{SpellsUnit};
+ghost use Rattle.c_parse.specs.Whole.{IsWhole, passed_in};
+
+use crate::items::items;
+use crate::token::Token;
+use c_tree::Unit;
+use hw_text::{Cursor, NoMemory, Place, Placed, ReadFault};
+use std::alloc::Global;
+
+/// What a list of tokens is to a part of the grammar.
+#[derive(Debug, Drop)]
+pub enum Whole<X> {
+    /// A text of this value.
+    Text(X),
+    /// None. A text begins with so many of its tokens, and none with one more.
+    Stuck(usize),
+}
+
+impl<X> Whole<X> {
+    /// How many of so many tokens a text begins with.
+    pub fn passed(&self, all: usize) -> usize
+        ensures { result ≡ passed_in all self.now }
+    {
+        match self {
+            Whole::Text(_) => all,
+            Whole::Stuck(passed) => *passed,
+        }
+    }
+}
+
+/// Reads a unit, whose text ends there.
+fn unit(
+    alloc: Global,
+    tokens: &mut Cursor<'_, Placed<Token>>,
+    full: bool,
+    end: Place,
+) -> Result<Unit, ReadFault>
+    ensures { Reads (SpellsUnit full end) TheEnd tokens.old tokens.new result }
+{
+    let items = items(alloc, tokens, full)?;
+    Ok(Unit { items, end })
+}
+
+/// Reads all of the tokens as one unit, whose text ends there.
+pub fn read_whole(
+    alloc: Global,
+    tokens: &[Placed<Token>],
+    full: bool,
+    end: Place,
+) -> Result<Whole<Unit>, NoMemory>
+    ensures { IfOk result (λ whole. IsWhole (SpellsUnit full end) tokens.now whole) }
+{
+    let mut cursor = Cursor::new(tokens);
+    match unit(alloc, &mut cursor, full, end) {
+        Ok(value) => {
+            if cursor.left() == 0 {
+                Ok(Whole::Text(value))
+            } else {
+                Ok(Whole::Stuck(tokens.len() - cursor.left()))
+            }
+        }
+        Err(ReadFault::Syntax) => Ok(Whole::Stuck(tokens.len() - cursor.left())),
+        Err(ReadFault::NoMemory) => Err(NoMemory),
+    }
+}
