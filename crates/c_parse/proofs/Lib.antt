@@ -6,7 +6,6 @@ pub mod CallBegins
 pub mod CallTexts
 pub mod Chains
 pub mod CountTexts
-pub mod Failures
 pub mod FormTokens
 pub mod HeadingTexts
 pub mod InitialTexts
@@ -27,9 +26,6 @@ pub mod PartTexts
 pub mod Pieces
 pub mod PlainChoices
 pub mod PlainTexts
-pub mod RangeEnds
-pub mod RangeLaws
-pub mod RangeReads
 pub mod RightSides
 pub mod RightTexts
 pub mod Samples
@@ -45,6 +41,3 @@ pub mod TwoParts
 pub mod TwoTokens
 pub mod TypeTexts
 pub mod TypedefTexts
-pub mod UnitTexts
-pub mod Verdicts
-pub mod Wholes

@@ -1,7 +1,5 @@
-mod generated;
 mod right_sides;
 mod units;
-mod whole_texts;
 
 use super::*;
 use hw_text::Place;

@@ -1,12 +1,8 @@
-pub mod Allowed
 pub mod Annex
 pub mod Classes
-pub mod ContractTokens
-pub mod ExpressionTokens
 pub mod Flaws
 pub mod Grammar
 pub mod Levels
-pub mod Lexed
 pub mod Marks
 pub mod Operators
 pub mod Printing
