@@ -12,6 +12,7 @@ pub mod Partings
 pub mod Runs
 pub mod SymbolTokens
 pub mod TextTokens
+pub mod UnplacedTokens
 pub mod UnplacedValues
 pub mod ValueInduction
 pub mod ValueLemmas
