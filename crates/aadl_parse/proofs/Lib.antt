@@ -1,9 +1,7 @@
 mod Annexes
 mod Choices
-pub mod Failures
 mod Flawless
 mod OneAndEach
-pub mod Parses
 pub mod PrintedLaw
 mod QuantityReads
 mod Repeats
@@ -22,4 +20,4 @@ mod SomeOf
 mod Spelling
 mod ThreeParts
 mod ValueReads
-pub mod Wholes
+pub mod WholeModels

@@ -5,6 +5,7 @@ use Rattle.std.proofs.lemmas.List.Elements.{All-head, All-tail}
 use Rattle.hw_text.specs.declared.fault.Fault.{Fault}
 use Rattle.hw_text.specs.declared.fault.Fault.TheVariants as fault
 use Rattle.hw_text.specs.declared.placed.Placed.{Placed}
+use Rattle.hw_text.specs.WholeTexts.{IsTextOf, IsAccepted, IsRejected, IfRefused}
 use Rattle.aadl_tree.specs.declared.package.Package.{Package}
 use Rattle.aadl_tree.specs.declared.token.Token.{Token}
 use Rattle.aadl_tree.specs.declared.token.Token.TheVariants as token
@@ -15,13 +16,14 @@ use Rattle.aadl_tree.specs.Unplaced.{SamePackage}
 use Rattle.aadl_tree.proofs.ApartPackages.{package-apart}
 use Rattle.aadl_tree.proofs.LaidOut.{laid_out}
 use Rattle.aadl_parse.specs.declared.flaw.Flaw.TheVariants as flaw
+use Rattle.aadl_parse.specs.declared.stop.Stop.TheVariants as stop
 use Rattle.aadl_parse.specs.Flaws.{open_behind_mark, open_behind_token, open_behind, flaw_of}
-use Rattle.aadl_parse.specs.Grammar.{SpellsPackage}
 use Rattle.aadl_parse.specs.Printed.{at_start, IsWithinLimits}
-use Rattle.aadl_parse.specs.Refusals.{IsTextOf, IsAccepted, IsRejected, IfRefused}
+use Rattle.aadl_parse.specs.Rules.{model_rules}
 use Rattle.aadl_parse.specs.Stops.{start}
 use Rattle.aadl_parse.proofs.Respelled.{tokens_of}
 use Rattle.aadl_parse.proofs.RespelledPackages.{a_package}
+use Rattle.aadl_parse.proofs.WholeModels.{small-enough, not-told}
 
 -- a token that is allowed, and behind which no more than 64 brackets are open
 no-flaw-of : (n : ℕ) (t : Token) → IsAllowed t → open_behind_token n t ≤ 64 → flaw_of n t ≡ None
@@ -41,7 +43,7 @@ no-flaws n (p ∷ ps) (suc k) allowed shallow =
     no-flaws (open_behind_token n p.token) ps k (All-tail IsAllowed p.token (tokens_of ps) allowed) (λ j. shallow (suc j))
 
 -- the canonical text of a package is a text of the same package but for places
-pub printed : (p : Package) → AreAllowed (package_tokens p) → IsWithinLimits p → (q : Package) × IsTextOf SpellsPackage (canonical_text p) q × SamePackage p q
+pub printed : (p : Package) → AreAllowed (package_tokens p) → IsWithinLimits p → (q : Package) × IsTextOf model_rules (canonical_text p) q × SamePackage p q
 printed p allowed limits =
     let text = laid_out (package_tokens p) allowed (package-apart p) start in
     let read = a_package p text.placed text.same in
@@ -49,23 +51,25 @@ printed p allowed limits =
     λ j. subst (λ (ts : List Token). open_behind 0 (take j (at_start ts)) ≤ 64) (sym text.same) (limits.shallow j) in (
       read.0,
       record {
-        small = limits.small;
+        not_told = small-enough (canonical_text p) limits.small;
         tokens = text.placed;
         end = text.end;
+        stop = stop.End;
         lexed = record { behind = []; lexed = text.lexed; stopped = refl };
+        ended = refl;
         spelled = read.1;
-        sound = λ k. no-flaws 0 text.placed k (subst AreAllowed (sym text.same) allowed) shallow;
+        sound = λ k. not-told text.placed k (no-flaws 0 text.placed k (subst AreAllowed (sym text.same) allowed) shallow);
       },
       sym read.2,
     )
 
 -- what is said of the canonical text of a package, by what accepts and rejects as it should
-pub read_back : (result : Result Package Fault) (bytes : List ℕ) → IfOk result (λ tree. IsAccepted SpellsPackage bytes tree) → IfRefused result (λ refusal. IsRejected SpellsPackage bytes refusal) → (p : Package) → bytes ≡ canonical_text p → AreAllowed (package_tokens p) → IsWithinLimits p → IfOk result (λ tree. SamePackage p tree) × IfRefused result (λ refusal. ⊥)
+pub read_back : (result : Result Package Fault) (bytes : List ℕ) → IfOk result (λ tree. IsAccepted model_rules bytes tree) → IfRefused result (λ refusal. IsRejected model_rules bytes refusal) → (p : Package) → bytes ≡ canonical_text p → AreAllowed (package_tokens p) → IsWithinLimits p → IfOk result (λ tree. SamePackage p tree) × IfRefused result (λ refusal. ⊥)
 read_back (Ok tree) bytes accepted rejected p is allowed limits =
     let text = printed p allowed limits in
-    let same = accepted.only text.0 (subst (λ (bs : List ℕ). IsTextOf SpellsPackage bs text.0) (sym is) text.1) in
+    let same = accepted.only text.0 (subst (λ (bs : List ℕ). IsTextOf model_rules bs text.0) (sym is) text.1) in
     (subst (λ (q : Package). SamePackage p q) same text.2, tt)
 read_back (Err (fault.Refused r)) bytes accepted rejected p is allowed limits =
     let text = printed p allowed limits in
-    (tt, rejected.no_text text.0 (subst (λ (bs : List ℕ). IsTextOf SpellsPackage bs text.0) (sym is) text.1))
+    (tt, rejected.no_text text.0 (subst (λ (bs : List ℕ). IsTextOf model_rules bs text.0) (sym is) text.1))
 read_back (Err fault.NoMemory) bytes accepted rejected p is allowed limits = (tt, tt)

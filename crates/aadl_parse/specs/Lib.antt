@@ -6,6 +6,7 @@ pub mod Laws
 pub mod LeftOut
 pub mod Printed
 pub mod Refusals
+pub mod Rules
 pub mod Shapes
 pub mod SimpleValue
 pub mod Stops
@@ -14,4 +15,3 @@ pub mod ValueBegins
 pub mod ValueForms
 pub mod ValueText
 pub mod ValueTokens
-pub mod Whole

@@ -1,21 +1,12 @@
 //! The reading of whole lists of tokens.
 
 ghost use Rattle.std.specs.Prelude.{IfOk};
-ghost use Rattle.aadl_parse.specs.Whole.{IsWhole};
+ghost use Rattle.hw_text.specs.WholeLists.{IsWhole};
 
 use crate::part::{Closed, Part};
 use aadl_tree::Token;
-use hw_text::{Cursor, NoMemory, Placed, ReadFault};
+use hw_text::{Cursor, NoMemory, Placed, ReadFault, Whole};
 use std::alloc::Global;
-
-/// What a list of tokens is to a part of the grammar.
-#[derive(Debug, Drop)]
-pub enum Whole<X> {
-    /// A text of this value.
-    Text(X),
-    /// None. A text begins with so many of its tokens, and none with one more.
-    Stuck(usize),
-}
 
 /// Reads all of the tokens as one text of the part.
 pub fn read_whole<P: Closed>(

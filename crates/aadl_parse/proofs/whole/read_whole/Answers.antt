@@ -5,8 +5,9 @@ use Rattle.hw_text.specs.declared.read_fault.ReadFault.{ReadFault}
 use Rattle.std.proofs.Common.{Err}
 use Rattle.aadl_tree.specs.declared.token.Token.{Token}
 use Rattle.aadl_parse.specs.Shapes.{Without}
-use Rattle.aadl_parse.specs.Whole.{GoesNoFurther}
-use Rattle.aadl_parse.proofs.Wholes.{anything, all-read, read-further, stuck-further}
+use Rattle.hw_text.specs.WholeLists.{GoesNoFurther}
+use Rattle.hw_text.proofs.WholeLists.{all-read, read-further, stuck-further}
+use Rattle.aadl_parse.proofs.WholeModels.{at-end}
 use Rattle.aadl_parse.proofs.whole.read_whole.Goals as goal
 
 pub returns-then-left-eq0 : goal.returns-then-left-eq0
@@ -14,7 +15,7 @@ returns-then-left-eq0 g c =
     let A = g.P.Part.spells in
     let F = Without g.P.Part.goes_on in
     let so = subst (λ (ts : List (Placed Token)). Reached A F ts c.read.new.tokens c.in-Ok.value) c.new-cursor.ensures c.in-Ok.ensures in
-    all-read A F (anything _ g.met.P.Closed.closed) c.args.tokens.now c.read.new.tokens c.in-Ok.value (sym c.left.ensures ∙ c.if-left-eq0.true) so
+    all-read A F (at-end _ g.met.P.Closed.closed) c.args.tokens.now c.read.new.tokens c.in-Ok.value (sym c.left.ensures ∙ c.if-left-eq0.true) so
 
 pub returns-else-left-eq0 : goal.returns-else-left-eq0
 returns-else-left-eq0 g c =
@@ -23,7 +24,7 @@ returns-else-left-eq0 g c =
     let ts = c.args.tokens.now in
     let so = subst (λ (l : List (Placed Token)). Reached A F l c.read.new.tokens c.in-Ok.value) c.new-cursor.ensures c.in-Ok.ensures in
     subst (λ (n : ℕ). GoesNoFurther A ts (length ts - n)) (sym c.left-else-left-eq0.ensures)
-    (read-further A F (anything _ g.met.P.Closed.closed) ts c.read.new.tokens c.in-Ok.value (λ none. c.if-left-eq0.false (c.left.ensures ∙ none)) so)
+    (read-further A F (at-end _ g.met.P.Closed.closed) ts c.read.new.tokens c.in-Ok.value (λ none. c.if-left-eq0.false (c.left.ensures ∙ none)) so)
 
 pub returns-in-Err-Syntax : goal.returns-in-Err-Syntax
 returns-in-Err-Syntax g c =
@@ -33,4 +34,4 @@ returns-in-Err-Syntax g c =
     let stuck = subst (λ (e : ReadFault). Reads A F c.new-cursor.result c.read.new.tokens (Err e)) c.in-Err-Syntax.field-0-is c.in-Err-Syntax.ensures in
     let so = subst (λ (l : List (Placed Token)). Stuck A F l c.read.new.tokens) c.new-cursor.ensures stuck in
     subst (λ (n : ℕ). GoesNoFurther A ts (length ts - n)) (sym c.left-in-Err-Syntax.ensures)
-    (stuck-further A F (anything _ g.met.P.Closed.closed) ts c.read.new.tokens so)
+    (stuck-further A F (at-end _ g.met.P.Closed.closed) ts c.read.new.tokens so)
