@@ -17,6 +17,7 @@ pub mod PartTrees
 pub mod Ports
 pub mod Runs
 pub mod Served
+pub mod Stays
 pub mod TraceActs
 pub mod TraceDomains
 pub mod TraceIntegers

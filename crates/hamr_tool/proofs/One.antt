@@ -12,9 +12,9 @@ use Rattle.hamr_tool.specs.declared.judgement.Judgement.TheVariants as judgement
 use Rattle.std.proofs.Common.{inl, inr}
 use Rattle.std.proofs.lemmas.Option.{same_Some}
 use Rattle.hw_text.specs.declared.refusal.Refusal.{Refusal}
+use Rattle.hw_text.specs.WholeTexts.{IsTextOf, IsRefusedAs}
 use Rattle.aadl_tree.specs.declared.package.Package.{Package}
-use Rattle.aadl_parse.specs.Grammar.{SpellsPackage}
-use Rattle.aadl_parse.specs.Refusals.{IsTextOf, IsRefusedAs}
+use Rattle.aadl_parse.specs.Rules.{model_rules}
 use Rattle.hamr_tool.specs.declared.report.Report.{Report}
 use Rattle.hamr_tool.specs.Cause.{report_of, refused}
 use Rattle.hamr_tool.specs.ModelFile.{OnModel}
@@ -132,15 +132,15 @@ model-one : (held : List ℕ → Option (List ℕ)) (model : List ℕ) (Tells : 
     (r s : Report) → OnModel held model Tells r → OnModel held model Tells s → r ≡ s
 model-one held model Tells one r s (inl h) (inl k) =
     let bytes = same_Some k.bytes h.bytes (sym k.model_held ∙ h.model_held) in
-    let refusal = h.rejected.only k.refusal (subst (λ (b : List ℕ). IsRefusedAs SpellsPackage b k.refusal) bytes k.rejected.refused) in
+    let refusal = h.rejected.only k.refusal (subst (λ (b : List ℕ). IsRefusedAs model_rules b k.refusal) bytes k.rejected.refused) in
     h.told ∙ ap (λ (x : Refusal). report_of (refused model x)) (sym refusal) ∙ sym k.told
 model-one held model Tells one r s (inl h) (inr k) =
-    absurd (h.rejected.no_text k.tree (subst (λ (b : List ℕ). IsTextOf SpellsPackage b k.tree) (same_Some k.bytes h.bytes (sym k.model_held ∙ h.model_held)) k.accepted.text))
+    absurd (h.rejected.no_text k.tree (subst (λ (b : List ℕ). IsTextOf model_rules b k.tree) (same_Some k.bytes h.bytes (sym k.model_held ∙ h.model_held)) k.accepted.text))
 model-one held model Tells one r s (inr h) (inl k) =
-    absurd (k.rejected.no_text h.tree (subst (λ (b : List ℕ). IsTextOf SpellsPackage b h.tree) (same_Some h.bytes k.bytes (sym h.model_held ∙ k.model_held)) h.accepted.text))
+    absurd (k.rejected.no_text h.tree (subst (λ (b : List ℕ). IsTextOf model_rules b h.tree) (same_Some h.bytes k.bytes (sym h.model_held ∙ k.model_held)) h.accepted.text))
 model-one held model Tells one r s (inr h) (inr k) =
     let bytes = same_Some k.bytes h.bytes (sym k.model_held ∙ h.model_held) in
-    let tree = h.accepted.only k.tree (subst (λ (b : List ℕ). IsTextOf SpellsPackage b k.tree) bytes k.accepted.text) in
+    let tree = h.accepted.only k.tree (subst (λ (b : List ℕ). IsTextOf model_rules b k.tree) bytes k.accepted.text) in
     one h.tree r s h.tells (subst (λ (p : Package). Tells p s) tree k.tells)
 
 judge-one : (held : List ℕ → Option (List ℕ)) (model trace : List ℕ) (p : Package) (r s : Report) → JudgeTells held model trace p r → JudgeTells held model trace p s → r ≡ s
@@ -150,4 +150,4 @@ judge-one held model trace p r s h k =
 -- there is one output
 pub output-one : OutputIsOne
 output-one held (judge model trace) one other gives gives' = model-one held model (JudgeTells held model trace) (judge-one held model trace) one other gives gives'
-output-one held (tidy model) one other gives gives' = model-one held model IsTidied (λ p r s h k. h ∙ sym k) one other gives gives'
+output-one held (tidy model) one other gives gives' = model-one held model IsTidied (λ p r s h k. h.told ∙ sym k.told) one other gives gives'

@@ -1,5 +1,6 @@
 -- What is answered where the files are held and no fault is counted.
 use Rattle.std.proofs.Common.{◌≡◌, ℕ, List, length, Option, Some, None, IsSome, ap, sym, ◌∙◌, subst, arith, inl, inr}
+use Rattle.hw_text.specs.WholeTexts.{IsTextOf}
 use Rattle.hamr_tool.specs.declared.status.Status.{Status}
 use Rattle.hamr_tool.specs.declared.status.Status.TheVariants as status
 use Rattle.hamr_tool.specs.declared.report.Report.{Report}
@@ -9,8 +10,7 @@ use Rattle.hamr_tool.specs.Answer.{Gives, Accepts, IsForContent, IsForAbsence, I
 use Rattle.hamr_tool.specs.Command.{Command, judge, tidy, IsRow}
 use Rattle.std.proofs.lemmas.Option.{same_Some}
 use Rattle.aadl_tree.specs.declared.package.Package.{Package}
-use Rattle.aadl_parse.specs.Grammar.{SpellsPackage}
-use Rattle.aadl_parse.specs.Refusals.{IsTextOf}
+use Rattle.aadl_parse.specs.Rules.{model_rules}
 use Rattle.hamr_tool.specs.Judge.{IsJudged, JudgeTells, AreAccepted, told_of}
 use Rattle.hamr_tool.specs.ModelFile.{RefusesModel, TakesModel, HoldsPackage}
 use Rattle.hamr_tool.specs.Order.{IsReached}
@@ -80,11 +80,11 @@ answer_complete status.NoMemory s asked out command quiet row serves working = t
 -- the package in the file is the one that is read there
 same-package : (held : List ℕ → Option (List ℕ)) (model : List ℕ) (Tells : Package → Report → Type 0) (report : Report) (p : Package) → HoldsPackage held model p → (t : TakesModel held model Tells report) → p ≡ t.tree
 same-package held model Tells report p holds takes =
-    takes.accepted.only p (subst (λ (b : List ℕ). IsTextOf SpellsPackage b p) (same_Some holds.bytes takes.bytes (sym holds.model_held ∙ takes.model_held)) holds.is_text)
+    takes.accepted.only p (subst (λ (b : List ℕ). IsTextOf model_rules b p) (same_Some holds.bytes takes.bytes (sym holds.model_held ∙ takes.model_held)) holds.is_text)
 
 not-refused : (held : List ℕ → Option (List ℕ)) (model : List ℕ) (report : Report) (p : Package) → HoldsPackage held model p → RefusesModel held model report → ⊥
 not-refused held model report p holds refuses =
-    refuses.rejected.no_text p (subst (λ (b : List ℕ). IsTextOf SpellsPackage b p) (same_Some holds.bytes refuses.bytes (sym holds.model_held ∙ refuses.model_held)) holds.is_text)
+    refuses.rejected.no_text p (subst (λ (b : List ℕ). IsTextOf model_rules b p) (same_Some holds.bytes refuses.bytes (sym holds.model_held ∙ refuses.model_held)) holds.is_text)
 
 -- two accepted files are judged by the rules
 judged-accepted : (held : List ℕ → Option (List ℕ)) (model trace : List ℕ) (tree : Package) (found : Judgement) (files : AreAccepted held model trace) → files.tree ≡ tree →
@@ -106,7 +106,7 @@ given-success held (judge model trace) report (inr takes) files =
     subst (λ (r : Report). IsSuccessOrNoMemory r.status) (sym tells.told)
     (judged-accepted held model trace takes.tree tells.found files (same-package held model (JudgeTells held model trace) report files.tree files.is_model takes) tells.judged)
 given-success held (tidy model) report (inl refuses) files = absurd (not-refused held model report files.0 files.1 refuses)
-given-success held (tidy model) report (inr takes) files = subst (λ (r : Report). IsSuccessOrNoMemory r.status) (sym takes.tells) tt
+given-success held (tidy model) report (inr takes) files = subst (λ (r : Report). IsSuccessOrNoMemory r.status) (sym takes.tells.told) tt
 
 accepted-success : (answer : Status) (held : List ℕ → Option (List ℕ)) (command : Command) (out : Sent) →
     IsOutput held command out answer → Accepts held command → IsSuccessOrNoMemory answer

@@ -1,5 +1,5 @@
 -- The answer of the program: what it prints and its status, from the words, the files and the outside.
-use Rattle.std.specs.Prelude.{◌≡◌, ◌⊎◌, ℕ, true, List, Option}
+use Rattle.std.specs.Prelude.{◌≡◌, ◌⊎◌, ℕ, true, List, Option, Some}
 use Rattle.hw_io.specs.Count.{HasRisen}
 use Rattle.hw_io.specs.Written.{Appends, SentPart}
 use Rattle.hamr_tool.specs.declared.status.Status.{Status}
@@ -10,6 +10,7 @@ use Rattle.hamr_tool.specs.Command.{Command, judge, tidy, IsRow, IsNoRow}
 use Rattle.hamr_tool.specs.Order.{IsReached}
 use Rattle.hamr_tool.specs.Outside.{Seen, WasAbsent, FaultRose}
 use Rattle.aadl_tree.specs.declared.package.Package.{Package}
+use Rattle.aadl_parse.specs.Printed.{IsWithinLimits}
 use Rattle.hamr_tool.specs.Judge.{JudgeTells, AreAccepted}
 use Rattle.hamr_tool.specs.ModelFile.{OnModel, HoldsPackage}
 use Rattle.hamr_tool.specs.Tidy.{IsTidied}
@@ -22,6 +23,13 @@ Gives held (tidy model) report = OnModel held model IsTidied report
 -- what the files hold decides the output
 abbrev pub OutputIsOne : Type 0
 OutputIsOne = (held : List ℕ → Option (List ℕ)) (command : Command) (one other : Report) → Gives held command one → Gives held command other → one ≡ other
+
+-- a file holds what `tidy` printed of a model, and that is within the limits: `tidy` of this file prints the same
+abbrev pub TidiedStays : Type 0
+TidiedStays =
+    (held after : List ℕ → Option (List ℕ)) (model file : List ℕ) (tree : Package) (report again : Report) →
+    HoldsPackage held model tree → IsWithinLimits tree → Gives held (tidy model) report →
+    after file ≡ Some report.text → Gives after (tidy file) again → again ≡ report
 
 -- the files that the command reads are accepted
 abbrev pub Accepts : (List ℕ → Option (List ℕ)) → Command → Type 0

@@ -4,9 +4,9 @@ use Rattle.hw_text.specs.declared.fault.Fault.{Fault}
 use Rattle.hw_text.specs.declared.fault.Fault.TheVariants as fault
 use Rattle.hw_text.specs.declared.no_memory.NoMemory.{NoMemory}
 use Rattle.hw_text.specs.declared.refusal.Refusal.{Refusal}
+use Rattle.hw_text.specs.WholeTexts.{IsTextOf, IsAccepted, IsRejected}
 use Rattle.aadl_tree.specs.declared.package.Package.{Package}
-use Rattle.aadl_parse.specs.Grammar.{SpellsPackage}
-use Rattle.aadl_parse.specs.Refusals.{IsTextOf, IsAccepted, IsRejected}
+use Rattle.aadl_parse.specs.Rules.{model_rules}
 use Rattle.hamr_tool.specs.declared.report.Report.{Report}
 use Rattle.hamr_tool.specs.declared.model_file.ModelText.{ModelText}
 use Rattle.hamr_tool.specs.declared.model_file.ModelText.TheVariants as text
@@ -14,21 +14,21 @@ use Rattle.hamr_tool.specs.Cause.{report_of, refused}
 
 -- what the bytes are: the text of this package alone, or a text that is refused so alone
 abbrev pub IsModelText : List ℕ → ModelText → Type 0
-IsModelText bytes (text.Package p) = IsAccepted SpellsPackage bytes p
-IsModelText bytes (text.Refused r) = IsRejected SpellsPackage bytes r
+IsModelText bytes (text.Package p) = IsAccepted model_rules bytes p
+IsModelText bytes (text.Refused r) = IsRejected model_rules bytes r
 
 -- the file holds a text of the package
 pub record HoldsPackage (held : List ℕ → Option (List ℕ)) (model : List ℕ) (p : Package) : Type 0 where
   pub bytes : List ℕ
   pub model_held : held model ≡ Some bytes
-  pub is_text : IsTextOf SpellsPackage bytes p
+  pub is_text : IsTextOf model_rules bytes p
 
 -- the file holds no model, and that is told
 pub record RefusesModel (held : List ℕ → Option (List ℕ)) (model : List ℕ) (report : Report) : Type 0 where
   pub bytes : List ℕ
   pub model_held : held model ≡ Some bytes
   pub refusal : Refusal
-  pub rejected : IsRejected SpellsPackage bytes refusal
+  pub rejected : IsRejected model_rules bytes refusal
   pub told : report ≡ report_of (refused model refusal)
 
 -- the file holds a model, of which this is told
@@ -36,7 +36,7 @@ pub record TakesModel (held : List ℕ → Option (List ℕ)) (model : List ℕ)
   pub bytes : List ℕ
   pub model_held : held model ≡ Some bytes
   pub tree : Package
-  pub accepted : IsAccepted SpellsPackage bytes tree
+  pub accepted : IsAccepted model_rules bytes tree
   pub tells : Tells tree report
 
 -- the output of a command that reads the file, by what it tells of a model

@@ -3,7 +3,7 @@
 ghost use Rattle.std.specs.Prelude.{IsPermutation};
 ghost use Rattle.arch_model.specs.Arch.{IsWellFormed};
 ghost use Rattle.hamr_tool.specs.declared.thin.model.ThinModel.{ThinModel};
-ghost use Rattle.hamr_tool.specs.Answer.{OutputIsOne};
+ghost use Rattle.hamr_tool.specs.Answer.{OutputIsOne, TidiedStays};
 ghost use Rattle.hamr_tool.specs.Instance.{links_named, instance_of};
 ghost use Rattle.hamr_tool.specs.Model.{IsThinModel};
 
@@ -11,6 +11,11 @@ ghost use Rattle.hamr_tool.specs.Model.{IsThinModel};
 /// outputs of one command.
 pub fn output_is_one()
     ensures { OutputIsOne }
+{}
+
+/// What `tidy` printed is left as it is by `tidy`, within the limits of models.
+pub fn tidied_stays()
+    ensures { TidiedStays }
 {}
 
 /// The instance of a thin model is an architecture, whose tables fit one another. Its links are

@@ -3,6 +3,7 @@
 
 mod cause;
 mod command;
+mod domains;
 mod files;
 mod judge;
 mod judgement;
@@ -57,6 +58,8 @@ fn words(rt: &HostRuntime, alloc: Global) -> Result<WordList, NoMemory> {
 mod model_tests;
 #[cfg(test)]
 mod refusal_tests;
+#[cfg(test)]
+mod size_tests;
 #[cfg(test)]
 mod tests;
 #[cfg(test)]

@@ -1,31 +1,15 @@
 //! The domains and ports that the words of a trace name.
 
-ghost use Rattle.std.specs.Prelude.{◌≡◌, ◌↔◌, ◌<◌, ◌≤◌, ◌^◌, ◌++◌, ◌∷◌, ℕ, List, true, IsTrue, IfSome, OnSome, IsSomeAnd, slice_get, length};
-ghost use Rattle.arch_model.specs.LookUp.{pd_named};
+ghost use Rattle.std.specs.Prelude.{◌≡◌, ◌↔◌, ◌<◌, ◌^◌, ◌++◌, ◌∷◌, ℕ, List, true, IsTrue, IfSome, OnSome, IsSomeAnd, slice_get, length};
 ghost use Rattle.hw_text.specs.Name.{is_name};
 ghost use Rattle.rts_rules.specs.Step.{IsDevice};
 ghost use Rattle.hamr_tool.specs.TracePort.{port_from};
 ghost use Rattle.hamr_tool.specs.Trace.{IsNamedDevice, IsNamedPort};
 ghost use Rattle.hamr_tool.specs.TraceText.{domain_name, port_name};
 
+use crate::domains::domain_named;
 use crate::trace::words::field;
 use arch_model::{Arch, Pd, PdId, Port, PortId, Role};
-
-/// The first domain of this name.
-fn domain_named(pds: &[Pd], name: &[u8]) -> Option<PdId>
-    requires { length pds.now ≤ 60 }
-    ensures place { result ≡ pd_named pds.now name.now }
-    ensures name { OnSome result (is_name name.now ≡ true) }
-{
-    let mut place = 0;
-    for pd in pds {
-        if pd.name.rows() == name {
-            return Some(PdId(place));
-        }
-        place += 1;
-    }
-    None
-}
 
 /// The first port of this name that leads out of its owner, or into it.
 fn port_named(ports: &[Port], owner: PdId, outward: bool, name: &[u8]) -> Option<PortId>
