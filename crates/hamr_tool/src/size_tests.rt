@@ -14,7 +14,7 @@ const LARGEST: usize = 1_048_576;
 fn padded(alloc: Global, size: usize) -> Result<String, AllocError> {
     let mut text = String::new(alloc);
     text.push_str("package P public end P;")?;
-    while text.len() < size {
+    for _ in text.len()..size {
         text.push_str(" ")?;
     }
     Ok(text)
