@@ -28,6 +28,9 @@ pub mod Pieces
 pub mod PlainChoices
 pub mod PlainTexts
 pub mod Prefixes
+pub mod RangeLaws
+pub mod RangeReads
+pub mod RangeTexts
 pub mod RightSides
 pub mod RightTexts
 pub mod Samples

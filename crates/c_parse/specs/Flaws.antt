@@ -5,32 +5,22 @@ use Rattle.std.specs.Option.{option_map_or}
 use Rattle.hw_text.specs.declared.code.Code.TheVariants as code
 use Rattle.hw_text.specs.declared.place.Place.{Place}
 use Rattle.hw_text.specs.declared.refusal.Refusal.{Refusal}
+use Rattle.hw_text.specs.Reading.{begins}
 use Rattle.c_parse.specs.declared.flaw.Flaw.{Flaw}
 use Rattle.c_parse.specs.declared.flaw.Flaw.TheVariants.{TooDeep, TooLong, EmptyRange}
 use Rattle.c_parse.specs.declared.mark.Mark.TheVariants as mark
-use Rattle.c_parse.specs.declared.token.Token.{Token}
-use Rattle.c_parse.specs.declared.token.Token.TheVariants as token
 use Rattle.c_parse.specs.Nesting.{opens, leads, open_behind, expression_length}
 use Rattle.c_parse.specs.RangeEnds.{empty_range_at}
-use Rattle.c_parse.specs.Values.{Tokens}
+use Rattle.c_parse.specs.Values.{Tokens, is_name, is_mark}
 
 -- a bracket inside 64 others
 abbrev pub is_too_deep : Tokens → ℕ → Bool
 is_too_deep ts i = option_map_or (λ t. opens t.token) (slice_get ts i) false && nat_le 64 (open_behind (take i ts))
 
-abbrev pub is_name_token : Token → Bool
-is_name_token (token.Name n) = true
-is_name_token _ = false
-
-abbrev pub is_open_parenthesis : Token → Bool
-is_open_parenthesis (token.Mark mark.OpenParenthesis) = true
-is_open_parenthesis _ = false
-
 -- a name and `(`
 abbrev pub begins_call : Tokens → Bool
 begins_call [] = false
-begins_call (t ∷ []) = false
-begins_call (t ∷ u ∷ ts) = is_name_token t.token && is_open_parenthesis u.token
+begins_call (t ∷ ts) = is_name t && begins (is_mark mark.OpenParenthesis) ts
 
 -- behind the first token begins an expression, and more than 500 of these tokens are its own
 abbrev pub leads_too_far : Tokens → Bool

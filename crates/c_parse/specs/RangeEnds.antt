@@ -13,6 +13,11 @@ use Rattle.c_parse.specs.Values.{Tokens, mark_of, keyword_of, name_of, literal_o
 use Rattle.c_parse.specs.CallGrammar.{plain_literal, negative_literal}
 use Rattle.c_parse.specs.Ranges.{signed_value}
 
+infixl 20 ◌>>=◌
+-- a step, where those before it gave something
+abbrev ◌>>=◌ : {A B : Type 0} → Option A → (A → Option B) → Option B
+o >>= f = option_and_then f o
+
 -- what the last token stands for, and the tokens before it
 abbrev pub last : {X : Type 0} → (Placed Token → Option X) → Tokens → Option (X × Tokens)
 last value [] = None
@@ -33,14 +38,19 @@ last_signed ts = option_map (λ r. with_minus r.0 r.1 (last (mark_of mark.Minus)
 
 -- the tokens before the `;`, name and `<` between the literals of a range
 unfoldable pub before_between : Tokens → Option Tokens
-before_between ts =
-    option_and_then (λ us. option_and_then (before_last (mark_of mark.Semicolon)) (before_last name_of us)) (before_last (mark_of mark.Less) ts)
+before_between ts = do
+  us ← before_last (mark_of mark.Less) ts
+  vs ← before_last name_of us
+  before_last (mark_of mark.Semicolon) vs
 
 -- the tokens before the `for`, bracket, type, name and `=` of a range
 unfoldable pub before_start : Tokens → Option Tokens
-before_start ts =
-    option_and_then (λ us. option_and_then (λ vs. option_and_then (λ ws. option_and_then (before_last (keyword_of keyword.For))
-    (before_last (mark_of mark.OpenParenthesis) ws)) (before_last integer_of vs)) (before_last name_of us)) (before_last (mark_of mark.Assign) ts)
+before_start ts = do
+  us ← before_last (mark_of mark.Assign) ts
+  vs ← before_last name_of us
+  ws ← before_last integer_of vs
+  xs ← before_last (mark_of mark.OpenParenthesis) ws
+  before_last (keyword_of keyword.For) xs
 
 abbrev pub bound_of : SignedLiteral → Bound
 bound_of l = record { place = l.start; value = signed_value l }
@@ -54,9 +64,12 @@ start_of_empty from below = if int_le below.value from.value then Some below.pla
 
 -- where the second literal begins of the empty range that the tokens end with
 unfoldable pub last_empty : Tokens → Option Place
-last_empty ts =
-    option_and_then (λ below. option_and_then (λ us. option_and_then (λ from. option_and_then (λ ws. start_of_empty from.0 below.0)
-    (before_start from.1)) (last_bound us)) (before_between below.1)) (last_bound ts)
+last_empty ts = do
+  below ← last_bound ts
+  us ← before_between below.1
+  from ← last_bound us
+  ws ← before_start from.1
+  start_of_empty from.0 below.0
 
 -- where the second literal begins of the empty range that ends with the token
 abbrev pub empty_range_at : Tokens → ℕ → Option Place

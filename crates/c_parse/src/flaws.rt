@@ -2,14 +2,16 @@
 
 ghost use Rattle.std.specs.Prelude.{◌≡◌, ◌<◌, ℕ, take, drop, length, Some, None, MatchOption, IfOk};
 ghost use Rattle.c_parse.specs.Nesting.{open_behind, expression_length};
-ghost use Rattle.c_parse.specs.Flaws.{is_too_deep, is_name_token, is_open_parenthesis, begins_call, leads_too_far, is_too_long, flaw_at, told_limit, told_syntax, place_at, flawed};
+ghost use Rattle.c_parse.specs.Flaws.{is_too_deep, begins_call, leads_too_far, is_too_long, flaw_at, told_limit, told_syntax, place_at, flawed};
 
 use crate::flaw::{DEEPEST, Flaw, Flawed, LONGEST};
+use crate::leaf::stands;
 use crate::mark::Mark;
+use crate::names::stands_name;
 use crate::nesting::{Brackets, expression_length, leads, opens};
 use crate::ranges::empty_range_at;
 use crate::token::Token;
-use hw_text::{Code, NoMemory, Place, Placed, Refusal, TextBuf};
+use hw_text::{Code, Cursor, NoMemory, Place, Placed, Refusal, TextBuf};
 use std::alloc::Global;
 
 /// The first token with which something is wrong, in the full grammar or in that of users.
@@ -75,29 +77,14 @@ fn leads_too_far(tokens: &[Placed<Token>]) -> bool
     leads(&first.token) && !begins_call(rest) && expression_length(rest) > LONGEST
 }
 
-/// Whether these are a name and `(`.
+/// Whether a name and `(` stand there.
 fn begins_call(tokens: &[Placed<Token>]) -> bool
     ensures { result ≡ begins_call tokens.now }
 {
-    let Some((first, rest)) = tokens.split_first() else {
+    let Some((_, rest)) = tokens.split_first() else {
         return false;
     };
-    let Some((second, _)) = rest.split_first() else {
-        return false;
-    };
-    is_name_token(&first.token) && is_open_parenthesis(&second.token)
-}
-
-fn is_name_token(token: &Token) -> bool
-    ensures { result ≡ is_name_token token.now }
-{
-    matches!(token, Token::Name(_))
-}
-
-fn is_open_parenthesis(token: &Token) -> bool
-    ensures { result ≡ is_open_parenthesis token.now }
-{
-    matches!(token, Token::Mark(Mark::OpenParenthesis))
+    stands_name(&Cursor::new(tokens)) && stands(&Cursor::new(rest), Mark::OpenParenthesis)
 }
 
 /// What is told of a token for its flaw.

@@ -51,6 +51,7 @@ pub use mark::Mark;
 pub use names::stands_name;
 pub use parameter_list::parameters;
 pub use plain::plain as plain_statement;
+pub use ranges::empty_ranges;
 pub use terminals::{IntegerAt, LiteralAt, NameAt, TruthAt, UnaryAt, ZeroAt};
 pub use token::Token;
 pub use typedefs::typedef;

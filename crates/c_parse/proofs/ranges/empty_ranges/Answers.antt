@@ -1,0 +1,8 @@
+use Rattle.c_parse.proofs.RangeLaws.{range-found-at, range-at}
+use Rattle.c_parse.proofs.ranges.empty_ranges.Goals as goal
+
+pub returns-clause-found : goal.returns-clause-found
+returns-clause-found c = range-found-at
+
+pub returns-clause-only : goal.returns-clause-only
+returns-clause-only c = range-at
