@@ -6,6 +6,8 @@ pub mod CallBegins
 pub mod CallTexts
 pub mod Chains
 pub mod CountTexts
+pub mod Enclosed
+pub mod EnclosedTexts
 pub mod Flawless
 pub mod FormTokens
 pub mod HeadingTexts
@@ -18,6 +20,7 @@ pub mod LevelTexts
 pub mod Levels
 pub mod Lists
 pub mod LocalTexts
+pub mod LongExpressions
 pub mod LvalueTexts
 pub mod MarkTokens
 pub mod OpenedTexts

@@ -1,6 +1,6 @@
 -- What is wrong with a token with which the grammar goes on: it is a bracket inside too many others, an expression goes on with it that has
 -- too many tokens, or a range ends with it that is empty (docs/formats/c.md).
-use Rattle.std.specs.Prelude.{ℕ, ◌+◌, ◌-◌, pos, nat_le, nat_lt, Bool, true, false, not, ◌&&◌, if◌then◌else◌, List, [], ◌∷◌, codes, take, drop, slice_get, unwrap_or, Option, Some, None, is_some}
+use Rattle.std.specs.Prelude.{ℕ, ◌+◌, ◌-◌, pos, nat_le, nat_lt, Bool, false, not, ◌&&◌, if◌then◌else◌, List, [], ◌∷◌, codes, take, drop, slice_get, unwrap_or, Option, Some, None, is_some}
 use Rattle.std.specs.Option.{option_map_or}
 use Rattle.hw_text.specs.declared.code.Code.TheVariants as code
 use Rattle.hw_text.specs.declared.place.Place.{Place}
@@ -27,8 +27,9 @@ abbrev pub leads_too_far : Tokens → Bool
 leads_too_far [] = false
 leads_too_far (t ∷ ts) = leads t.token && (not (begins_call ts) && nat_lt 500 (expression_length ts))
 
--- An outermost expression has its 501st token there. In the grammar of users no expression holds a call, or a comma outside brackets;
--- and the brackets inside an expression begin another one later, so that the outermost one has its 501st token first.
+-- Of the 502 tokens up to there, an expression begins behind the first, and the others are its own. It is an outermost one: in the grammar
+-- of users no expression holds a call, or a comma outside brackets, and a bracket within an expression begins another one later, so that
+-- the outermost one has its 501st token first.
 abbrev pub is_too_long : Tokens → ℕ → Bool
 is_too_long ts i = leads_too_far (drop (i - 501) (take (i + 1) ts))
 

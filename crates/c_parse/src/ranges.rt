@@ -1,9 +1,7 @@
 //! The ranges of loops over numbers, found at their second literal.
 
-ghost use Rattle.std.specs.Prelude.{◌≡◌, ℕ, reverse, Some};
+ghost use Rattle.std.specs.Prelude.{◌≡◌, reverse};
 ghost use Rattle.std.specs.Option.{option_map};
-ghost use Rattle.c_parse.specs.Ranges.{IsEmptyRange};
-ghost use Rattle.c_parse.specs.Values.{Tokens};
 ghost use Rattle.c_parse.specs.RangeEnds.{before_between, before_start, last_empty, empty_range_at};
 
 use crate::bounds::last_signed;
@@ -61,10 +59,3 @@ fn before_start(tokens: &[Placed<Token>]) -> Option<&[Placed<Token>]>
     let rest = before_mark(rest, Mark::OpenParenthesis)?;
     before_word(rest, Keyword::For)
 }
-
-/// Tokens end an empty range exactly where one is found, and where it is found its second literal
-/// begins.
-pub fn empty_ranges()
-    ensures found { (ts : Tokens) (i : ℕ) (at : Place) → IsEmptyRange ts i at → empty_range_at ts i ≡ Some at }
-    ensures only { (ts : Tokens) (i : ℕ) (at : Place) → empty_range_at ts i ≡ Some at → IsEmptyRange ts i at }
-{}

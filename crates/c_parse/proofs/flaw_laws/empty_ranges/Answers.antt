@@ -1,5 +1,5 @@
 use Rattle.c_parse.proofs.RangeLaws.{range-found-at, range-at}
-use Rattle.c_parse.proofs.ranges.empty_ranges.Goals as goal
+use Rattle.c_parse.proofs.flaw_laws.empty_ranges.Goals as goal
 
 pub returns-clause-found : goal.returns-clause-found
 returns-clause-found c = range-found-at
