@@ -1,5 +1,5 @@
--- Nothing is wrong behind the last token.
-use Rattle.std.proofs.Common.{◌≡◌, ◌<◌, ◌≤◌, ℕ, ◌+◌, ◌-◌, Bool, true, false, [], ◌∷◌, length, take, drop, Option, Some, None, refl, ap, ◌∙◌, inl, inr, arith, length-take, length-drop}
+-- Nothing is wrong behind the last token; something is wrong with a token of one of these kinds.
+use Rattle.std.proofs.Common.{◌≡◌, sym, ◌<◌, ◌≤◌, ℕ, ◌+◌, ◌-◌, Bool, true, false, [], ◌∷◌, length, take, drop, Option, Some, None, refl, ap, ◌∙◌, inl, inr, arith, length-take, length-drop}
 use Rattle.std.specs.Prelude.{not, ◌&&◌, if◌then◌else◌, nat_le, is_some, reverse, slice_get}
 use Rattle.std.specs.Option.{option_map_or}
 use Rattle.std.proofs.lemmas.Bool.{le-ltb, cases_lt}
@@ -14,6 +14,7 @@ use Rattle.c_parse.specs.Nesting.{opens, leads, open_behind, expression_length}
 use Rattle.c_parse.specs.RangeEnds.{last_empty, empty_range_at}
 use Rattle.c_parse.specs.Values.{Tokens}
 use Rattle.c_parse.proofs.Prefixes.{expression-le}
+use Rattle.c_parse.proofs.TokenKinds.{none-some}
 
 never : (a b : Bool) → a && (not b && false) ≡ false
 never true true = refl
@@ -50,3 +51,26 @@ no-flaw-past full ts i past =
 
 pub no-flaw : (full : Bool) (ts : Tokens) (i : ℕ) → length ts ≤ i → ((k : ℕ) → k < i → flaw_at full ts k ≡ None) → (k : ℕ) → flaw_at full ts k ≡ None
 no-flaw full ts i past sound k = elim (cases_lt k i) [ inl less ↦ sound k less | inr more ↦ no-flaw-past full ts k (omega (arith, past, more)) ]
+
+long-chosen : (deep : Bool) (o : Option Place) → chosen false deep true o ≡ None → ⊥
+unfolding chosen
+long-chosen true o none = none-some TooDeep (sym none)
+long-chosen false o none = none-some TooLong (sym none)
+
+empty-chosen : (full deep long : Bool) (at : Place) → chosen full deep long (Some at) ≡ None → ⊥
+unfolding chosen
+empty-chosen true deep long at none = none-some EmptyRange (sym none)
+empty-chosen false true long at none = none-some TooDeep (sym none)
+empty-chosen false false true at none = none-some TooLong (sym none)
+empty-chosen false false false at none = none-some EmptyRange (sym none)
+
+-- something is wrong with the 501st token of an expression
+pub flaw-of-long : (ts : Tokens) (i : ℕ) → is_too_long ts i ≡ true → flaw_at false ts i ≡ None → ⊥
+unfolding chosen
+flaw-of-long ts i long none = long-chosen (is_too_deep ts i) (empty_range_at ts i) (sym (ap (λ (b : Bool). chosen false (is_too_deep ts i) b (empty_range_at ts i)) long) ∙ none)
+
+-- and with the token that ends an empty range
+pub flaw-of-empty : (full : Bool) (ts : Tokens) (i : ℕ) (at : Place) → empty_range_at ts i ≡ Some at → flaw_at full ts i ≡ None → ⊥
+unfolding chosen
+flaw-of-empty full ts i at empty none =
+    empty-chosen full (is_too_deep ts i) (is_too_long ts i) at (sym (ap (chosen full (is_too_deep ts i) (is_too_long ts i)) empty) ∙ none)
