@@ -6,6 +6,9 @@ pub mod CallBegins
 pub mod CallTexts
 pub mod Chains
 pub mod CountTexts
+pub mod Enclosed
+pub mod EnclosedTexts
+pub mod Flawless
 pub mod FormTokens
 pub mod HeadingTexts
 pub mod InitialTexts
@@ -17,6 +20,7 @@ pub mod LevelTexts
 pub mod Levels
 pub mod Lists
 pub mod LocalTexts
+pub mod LongExpressions
 pub mod LvalueTexts
 pub mod MarkTokens
 pub mod OpenedTexts
@@ -26,6 +30,10 @@ pub mod PartTexts
 pub mod Pieces
 pub mod PlainChoices
 pub mod PlainTexts
+pub mod Prefixes
+pub mod RangeLaws
+pub mod RangeReads
+pub mod RangeTexts
 pub mod RightSides
 pub mod RightTexts
 pub mod Samples

@@ -1,0 +1,34 @@
+//! Laws of what may be wrong with tokens, which hold by themselves.
+
+ghost use Rattle.std.specs.Prelude.{◌≡◌, ◌≤◌, ◌<◌, ◌+◌, ℕ, Bool, ◌∷◌, ◌++◌, length, true, false, Some, None};
+ghost use Rattle.hw_text.specs.declared.place.Place.{Place};
+ghost use Rattle.hw_text.specs.declared.placed.Placed.{Placed};
+ghost use Rattle.c_tree.specs.declared.expression.Expression.{Expression};
+ghost use Rattle.c_parse.specs.declared.token.Token.{Token};
+ghost use Rattle.c_parse.specs.Values.{Tokens};
+ghost use Rattle.c_parse.specs.ExpressionGrammar.{SpellsWhole};
+ghost use Rattle.c_parse.specs.Flaws.{is_too_long, flaw_at};
+ghost use Rattle.c_parse.specs.Nesting.{ends, leads, expression_length};
+ghost use Rattle.c_parse.specs.RangeEnds.{empty_range_at};
+ghost use Rattle.c_parse.specs.Ranges.{IsEmptyRange};
+
+/// An expression of more than 500 tokens is found at its 501st token, wherever one may begin; so
+/// there is none where nothing is wrong. As many tokens are counted as it has, up to what ends it
+/// or to the end.
+pub fn long_expressions()
+    ensures found { (before ts after : Tokens) (t : Placed Token) (x : Expression) → leads t.token ≡ true →
+        SpellsWhole false x ts → 500 < length ts → is_too_long (before ++ t ∷ (ts ++ after)) (length before + 501) ≡ true }
+    ensures sound { (before ts after : Tokens) (t : Placed Token) (x : Expression) → leads t.token ≡ true → SpellsWhole false x ts →
+        ((k : ℕ) → flaw_at false (before ++ t ∷ (ts ++ after)) k ≡ None) → length ts ≤ 500 }
+    ensures ended { (ts after : Tokens) (t : Placed Token) (x : Expression) → SpellsWhole false x ts →
+        ends t.token ≡ true → expression_length (ts ++ t ∷ after) ≡ length ts }
+    ensures last { (ts : Tokens) (x : Expression) → SpellsWhole false x ts → expression_length ts ≡ length ts }
+{}
+
+/// Tokens end an empty range exactly where one is found, and what is found is where its second
+/// literal begins. There is none where nothing is wrong.
+pub fn empty_ranges()
+    ensures found { (ts : Tokens) (i : ℕ) (at : Place) → IsEmptyRange ts i at → empty_range_at ts i ≡ Some at }
+    ensures only { (ts : Tokens) (i : ℕ) (at : Place) → empty_range_at ts i ≡ Some at → IsEmptyRange ts i at }
+    ensures sound { (full : Bool) (ts : Tokens) (i : ℕ) (at : Place) → flaw_at full ts i ≡ None → IsEmptyRange ts i at → ⊥ }
+{}
