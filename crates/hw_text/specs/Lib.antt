@@ -6,4 +6,6 @@ pub mod Reading
 pub mod Refusal
 pub mod Text
 pub mod Tokens
+pub mod WholeLists
+pub mod WholeTexts
 pub mod formers

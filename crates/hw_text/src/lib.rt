@@ -21,6 +21,7 @@ mod refusal;
 mod reserved;
 mod rows;
 mod text_buf;
+mod whole;
 mod word_list;
 
 pub use blank::{is_white, skipped};
@@ -43,6 +44,7 @@ pub use read_fault::ReadFault;
 pub use refusal::Refusal;
 pub use rows::Rows;
 pub use text_buf::TextBuf;
+pub use whole::Whole;
 pub use word_list::WordList;
 
 #[cfg(test)]
