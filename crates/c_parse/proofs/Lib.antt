@@ -6,6 +6,7 @@ pub mod CallBegins
 pub mod CallTexts
 pub mod Chains
 pub mod CountTexts
+pub mod Flawless
 pub mod FormTokens
 pub mod HeadingTexts
 pub mod InitialTexts
@@ -26,6 +27,7 @@ pub mod PartTexts
 pub mod Pieces
 pub mod PlainChoices
 pub mod PlainTexts
+pub mod Prefixes
 pub mod RightSides
 pub mod RightTexts
 pub mod Samples

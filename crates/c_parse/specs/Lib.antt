@@ -2,13 +2,17 @@ pub mod Blanks
 pub mod CallGrammar
 pub mod CountGrammar
 pub mod ExpressionGrammar
+pub mod Flaws
 pub mod Forms
 pub mod Keywords
 pub mod Levels
 pub mod Marks
+pub mod Nesting
 pub mod Operators
 pub mod PartGrammar
 pub mod PlainGrammar
+pub mod RangeEnds
+pub mod Ranges
 pub mod StatementGrammar
 pub mod Tokens
 pub mod TypedefGrammar

@@ -55,7 +55,7 @@ pub fn read_one<T: Terminal>(
 }
 
 /// Where the token stands, if it is this mark.
-fn mark_of(mark: Mark, token: &Placed<Token>) -> Option<Place>
+pub fn mark_of(mark: Mark, token: &Placed<Token>) -> Option<Place>
     ensures { result ≡ mark_of mark token.now }
 {
     match &token.token {

@@ -1,3 +1,4 @@
+mod flaws;
 mod right_sides;
 mod units;
 

@@ -10,7 +10,7 @@ use crate::token::Token;
 use hw_text::{Cursor, Place, Placed, ReadFault};
 
 /// Where the token stands, if it is this word.
-fn keyword_of(word: Keyword, token: &Placed<Token>) -> Option<Place>
+pub fn keyword_of(word: Keyword, token: &Placed<Token>) -> Option<Place>
     ensures { result ≡ keyword_of word token.now }
 {
     match &token.token {

@@ -1,0 +1,52 @@
+-- Nothing is wrong behind the last token.
+use Rattle.std.proofs.Common.{◌≡◌, ◌<◌, ◌≤◌, ℕ, ◌+◌, ◌-◌, Bool, true, false, [], ◌∷◌, length, take, drop, Option, Some, None, refl, ap, ◌∙◌, inl, inr, arith, length-take, length-drop}
+use Rattle.std.specs.Prelude.{not, ◌&&◌, if◌then◌else◌, nat_le, is_some, reverse, slice_get}
+use Rattle.std.specs.Option.{option_map_or}
+use Rattle.std.proofs.lemmas.Bool.{le-ltb, cases_lt}
+use Rattle.std.proofs.lemmas.Option.{slice_get_past}
+use Rattle.hw_text.specs.declared.place.Place.{Place}
+use Rattle.hw_text.specs.declared.placed.Placed.{Placed}
+use Rattle.c_parse.specs.declared.flaw.Flaw.{Flaw}
+use Rattle.c_parse.specs.declared.flaw.Flaw.TheVariants.{TooDeep, TooLong, EmptyRange}
+use Rattle.c_parse.specs.declared.token.Token.{Token}
+use Rattle.c_parse.specs.Flaws.{is_too_deep, begins_call, leads_too_far, is_too_long, flaw_at}
+use Rattle.c_parse.specs.Nesting.{opens, leads, open_behind, expression_length}
+use Rattle.c_parse.specs.RangeEnds.{last_empty, empty_range_at}
+use Rattle.c_parse.specs.Values.{Tokens}
+use Rattle.c_parse.proofs.Prefixes.{expression-le}
+
+never : (a b : Bool) → a && (not b && false) ≡ false
+never true true = refl
+never true false = refl
+never false b = refl
+
+-- so few tokens have no expression that is too long
+few : (ts : Tokens) → length ts ≤ 501 → leads_too_far ts ≡ false
+few [] short = refl
+few (t ∷ ts) short =
+    let fits : expression_length ts ≤ 500 = omega (arith, expression-le ts, short) in
+    ap (λ (b : Bool). leads t.token && (not (begins_call ts) && b)) (le-ltb 500 (expression_length ts) fits) ∙ never (leads t.token) (begins_call ts)
+
+chosen : (full deep long : Bool) (o : Option Place) → Option Flaw
+chosen full deep long o =
+    if not full && deep then Some TooDeep
+    else if not full && long then Some TooLong
+    else if is_some o then Some EmptyRange
+    else None
+
+none-chosen : (full deep long : Bool) (o : Option Place) → deep ≡ false → long ≡ false → o ≡ None → chosen full deep long o ≡ None
+unfolding chosen
+none-chosen true deep long o d l e = rw e refl
+none-chosen false deep long o d l e = rw (d, l, e) refl
+
+pub no-flaw-past : (full : Bool) (ts : Tokens) (i : ℕ) → length ts ≤ i → flaw_at full ts i ≡ None
+unfolding chosen
+no-flaw-past full ts i past =
+    let absent : slice_get ts i ≡ None = slice_get_past ts i past in
+    let shallow : is_too_deep ts i ≡ false = ap (λ (o : Option (Placed Token)). option_map_or (λ t. opens t.token) o false && nat_le 64 (open_behind (take i ts))) absent in
+    let short : is_too_long ts i ≡ false = few (drop (i - 501) (take (i + 1) ts)) (omega (arith, length-drop (i - 501) (take (i + 1) ts), length-take (i + 1) ts, past)) in
+    let nowhere : empty_range_at ts i ≡ None = ap (λ (b : Bool). if b then last_empty (reverse (take (i + 1) ts)) else None) (le-ltb i (length ts) past) in
+    none-chosen full (is_too_deep ts i) (is_too_long ts i) (empty_range_at ts i) shallow short nowhere
+
+pub no-flaw : (full : Bool) (ts : Tokens) (i : ℕ) → length ts ≤ i → ((k : ℕ) → k < i → flaw_at full ts k ≡ None) → (k : ℕ) → flaw_at full ts k ≡ None
+no-flaw full ts i past sound k = elim (cases_lt k i) [ inl less ↦ sound k less | inr more ↦ no-flaw-past full ts k (omega (arith, past, more)) ]
