@@ -6,6 +6,7 @@ pub mod CallBegins
 pub mod CallTexts
 pub mod Chains
 pub mod CountTexts
+pub mod FlawPlaces
 pub mod Flawless
 pub mod FormTokens
 pub mod HeadingTexts
@@ -43,3 +44,5 @@ pub mod TwoParts
 pub mod TwoTokens
 pub mod TypeTexts
 pub mod TypedefTexts
+pub mod UnitTexts
+pub mod WholeUnits
