@@ -1,29 +1,26 @@
 -- Which statement stands ahead, and what has been read of it, step by step.
-use Rattle.std.proofs.Common.{◌≡◌, ◌∙◌, refl, sym, ap, subst, ℕ, ◌+◌, ◌<◌, ◌≤◌, nat_lt, Bool, true, false, ◌&&◌, ◌||◌, List, [], ◌∷◌, ◌++◌, append_assoc, append-nil, length, length-append, inl, inr, arith}
-use Rattle.std.specs.Prelude.{⊤, not}
+use Rattle.std.proofs.Common.{◌≡◌, ◌∙◌, refl, sym, ap, subst, ℕ, ◌+◌, ◌<◌, nat_lt, Bool, true, false, ◌&&◌, ◌||◌, List, [], ◌∷◌, ◌++◌, append_assoc, append-nil, length, length-append, inl, inr, arith}
+use Rattle.std.specs.Prelude.{⊤}
 use Rattle.std.proofs.lemmas.Bool.{false≢true}
 use Rattle.std.proofs.lemmas.Bool.Decides.{nat_tests}
-use Rattle.hw_text.specs.declared.placed.Placed.{Placed}
 use Rattle.hw_text.specs.declared.place.Place.{Place}
-use Rattle.hw_text.specs.Language.{Nothing, ◌⋅◌, ◌∣◌, Made, One}
-use Rattle.hw_text.specs.Reading.{first, begins, Begins, BeginsWith, Anything, Reached, Leaves}
+use Rattle.hw_text.specs.Language.{Nothing, ◌⋅◌, ◌∣◌, Made}
+use Rattle.hw_text.specs.Reading.{begins, Anything, Reached, Leaves}
 use Rattle.hw_text.proofs.Reading.{begun, refined, rebuilt, ended, made-begins, then-begins, first-begins}
-use Rattle.c_tree.specs.declared.expression.RightSide.{RightSide}
 use Rattle.c_tree.specs.declared.statement.Branch.{Branch}
 use Rattle.c_tree.specs.declared.statement.Otherwise.{Otherwise}
 use Rattle.c_tree.specs.declared.statement.Otherwise.TheVariants as otherwise
 use Rattle.c_tree.specs.declared.statement.Statement.{Statement}
 use Rattle.c_tree.specs.declared.statement.Statement.TheVariants.{Forever}
-use Rattle.c_parse.specs.declared.token.Token.{Token}
 use Rattle.c_parse.specs.declared.keyword.Keyword.TheVariants as keyword
 use Rattle.c_parse.specs.declared.mark.Mark.TheVariants as mark
 use Rattle.c_parse.specs.Values.{Tokens, is_mark, is_word}
-use Rattle.c_parse.specs.ExpressionGrammar.{Sign, InFull}
+use Rattle.c_parse.specs.ExpressionGrammar.{Sign}
 use Rattle.c_parse.specs.CallGrammar.{Word}
 use Rattle.c_parse.specs.PlainGrammar.{SpellsPlain, SpellsCondition}
 use Rattle.c_parse.specs.CountGrammar.{SpellsCount, SpellsForeverHead}
-use Rattle.c_parse.specs.StatementGrammar.{LinksFit, SpellsStatement, SpellsLoop, SpellsStatements, SpellsBlock, SpellsBranch, SpellsElseIfs, no_branch, else_if, SpellsOtherwise, no_else, an_else, SpellsElse, SpellsChoice, SpellsFor, NoElse, ends_body, count_of}
-use Rattle.c_parse.proofs.StatementTexts.{fits-as, first_fits, BlockForm, BranchForm, branch_of, LoopForm, StatementForm, block_opened, block_shut, branch_opened, branch_shut, loop_opened, loop_shut, statement_opened, statement_shut, block_begins, branch_begins, choice_begins, for_begins, plain_begins}
+use Rattle.c_parse.specs.StatementGrammar.{LinksFit, SpellsStatement, SpellsLoop, SpellsStatements, SpellsBlock, SpellsBranch, SpellsElseIfs, no_branch, else_if, SpellsOtherwise, no_else, an_else, SpellsElse, SpellsChoice, SpellsFor, NoElse, count_of}
+use Rattle.c_parse.proofs.StatementTexts.{fits-as, first_fits, branch_of, LoopForm, StatementForm, block_opened, block_shut, branch_opened, branch_shut, loop_opened, loop_shut, statement_opened, statement_shut, block_begins, branch_begins, choice_begins, for_begins, plain_begins}
 use Rattle.c_parse.proofs.Steps.{at_first, at_second, in_full, unmake, by_test, by_full, either_way, and_left, and_right, as_value}
 use Rattle.c_parse.proofs.Leaves.{sign_begins, word_begins, name_begins, integer_begins, this_sign, this_word}
 use Rattle.c_parse.proofs.CountTexts.{count_begins}

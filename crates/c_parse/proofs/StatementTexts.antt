@@ -1,12 +1,11 @@
 -- Statements and blocks: their forms, texts of them, and with which tokens they begin.
-use Rattle.std.proofs.Common.{◌≡◌, ◌∙◌, refl, sym, ap, subst, ℕ, ◌+◌, ◌≤◌, Bool, true, false, ◌||◌, List, [], ◌∷◌, ◌++◌, append_assoc, length, inl, inr, arith, lit≤}
-use Rattle.std.specs.Prelude.{⊤, not}
+use Rattle.std.proofs.Common.{◌≡◌, ◌∙◌, refl, sym, ap, subst, ℕ, ◌+◌, Bool, true, false, ◌||◌, List, [], ◌∷◌, ◌++◌, length, inl, inr, arith, lit≤}
 use Rattle.std.proofs.lemmas.Bool.{false≢true}
 use Rattle.hw_text.specs.declared.placed.Placed.{Placed}
 use Rattle.hw_text.specs.declared.place.Place.{Place}
 use Rattle.hw_text.specs.Language.{◌⋅◌, ◌∣◌, Made, Each, One}
-use Rattle.hw_text.specs.Reading.{begins, Begins, BeginsWith, Anything, Leaves}
-use Rattle.hw_text.proofs.Reading.{begun, made-begins, then-begins, either-begins}
+use Rattle.hw_text.specs.Reading.{Begins, BeginsWith, Anything, Leaves}
+use Rattle.hw_text.proofs.Reading.{begun, then-begins}
 use Rattle.c_tree.specs.declared.expression.RightSide.{RightSide}
 use Rattle.c_tree.specs.declared.statement.Branch.{Branch}
 use Rattle.c_tree.specs.declared.statement.Otherwise.{Otherwise}
@@ -18,17 +17,17 @@ use Rattle.c_parse.specs.declared.keyword.Keyword.TheVariants as keyword
 use Rattle.c_parse.specs.declared.mark.Mark.TheVariants as mark
 use Rattle.c_parse.specs.Values.{Tokens, is_mark, is_word, integer_of}
 use Rattle.c_parse.specs.ExpressionGrammar.{Sign, Name, InFull}
-use Rattle.c_parse.specs.CallGrammar.{Word, SpellsType}
+use Rattle.c_parse.specs.CallGrammar.{Word}
 use Rattle.c_parse.specs.PlainGrammar.{SpellsPlain, SpellsCondition}
 use Rattle.c_parse.specs.CountGrammar.{SpellsCount, SpellsForeverHead}
-use Rattle.c_parse.specs.StatementGrammar.{LinksFit, SpellsStatement, plain, choice, loop, SpellsLoop, count, forever, SpellsStatements, no_statement, a_statement, SpellsBlock, block, SpellsBranch, branch, SpellsElseIfs, no_branch, SpellsOtherwise, no_else, SpellsElse, SpellsChoice, SpellsFor, NoElse, ends_body, count_of}
+use Rattle.c_parse.specs.StatementGrammar.{LinksFit, SpellsStatement, plain, choice, loop, SpellsLoop, count, forever, SpellsStatements, no_statement, a_statement, SpellsBlock, block, SpellsBranch, branch, no_branch, no_else, SpellsElse, SpellsChoice, SpellsFor, NoElse, ends_body, count_of}
 use Rattle.c_parse.proofs.TypedefTexts.{type_begins}
 use Rattle.c_parse.proofs.CountTexts.{a_count}
 use Rattle.c_parse.proofs.RightTexts.{a_right}
 use Rattle.c_parse.proofs.PlainTexts.{local-begins, assignment-begins, alone-begins, full-begins}
 use Rattle.c_parse.proofs.Lists.{Listed, any_token}
 use Rattle.c_parse.proofs.Steps.{Sample, both, sample_of}
-use Rattle.c_parse.proofs.Leaves.{put, the_sign, the_word, sign_begins, word_begins, name_begins, integer_begins, word_so, sign_so}
+use Rattle.c_parse.proofs.Leaves.{the_sign, sign_begins, word_begins, name_begins, integer_begins, word_so, sign_so}
 
 abbrev pub BlockForm : Bool → List Statement → Tokens → Type 0
 BlockForm full = Made (λ p. p.1.0) (Sign mark.OpenBrace ⋅ SpellsStatements full ⋅ Sign mark.CloseBrace)

@@ -1,12 +1,10 @@
 -- What the rules of units say of lists of tokens, and that a text has one list of tokens.
-use Rattle.std.proofs.Common.{◌≡◌, ap, ℕ, Bool, List, Option, Some, None}
+use Rattle.std.proofs.Common.{◌≡◌, ap, ℕ, Bool, List, Some, None}
 use Rattle.std.specs.Option.{option_map}
 use Rattle.hw_text.specs.declared.place.Place.{Place}
-use Rattle.hw_text.specs.declared.placed.Placed.{Placed}
 use Rattle.hw_text.specs.Places.{place_of_rest}
 use Rattle.hw_text.proofs.OneTokens.{tokens-one}
 use Rattle.c_parse.specs.declared.flaw.Flaw.{Flaw}
-use Rattle.c_parse.specs.declared.token.Token.{Token}
 use Rattle.c_parse.specs.Blanks.{first_skipped, skipped}
 use Rattle.c_parse.specs.Flaws.{flaw_at, flawed}
 use Rattle.c_parse.specs.Tokens.{start, token_at, HasTokens}

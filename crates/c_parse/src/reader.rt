@@ -66,7 +66,8 @@ fn read_flawless(alloc: Global, lexed: &Lexed<'_, Token>, full: bool) -> Result<
 {
     match read_whole(alloc, lexed.tokens.rows(), full, lexed.end)? {
         Whole::Text(unit) => {
-            if lexed.rest.len() == 0 {
+            let left = lexed.rest.len();
+            if left == 0 {
                 Ok(unit)
             } else {
                 Err(Fault::Refused(unexpected_at(alloc, lexed, full, lexed.tokens.rows().len())?))
