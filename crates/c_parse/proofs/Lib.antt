@@ -8,6 +8,7 @@ pub mod Chains
 pub mod CountTexts
 pub mod Enclosed
 pub mod EnclosedTexts
+pub mod FlawPlaces
 pub mod Flawless
 pub mod FormTokens
 pub mod HeadingTexts
@@ -49,3 +50,5 @@ pub mod TwoParts
 pub mod TwoTokens
 pub mod TypeTexts
 pub mod TypedefTexts
+pub mod UnitTexts
+pub mod WholeUnits

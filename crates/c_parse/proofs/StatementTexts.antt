@@ -1,12 +1,11 @@
 -- Statements and blocks: their forms, texts of them, and with which tokens they begin.
-use Rattle.std.proofs.Common.{◌≡◌, ◌∙◌, refl, sym, ap, subst, Bool, true, false, ◌||◌, List, [], ◌∷◌, ◌++◌, append_assoc, inl, inr}
-use Rattle.std.specs.Prelude.{⊤, not}
+use Rattle.std.proofs.Common.{◌≡◌, ◌∙◌, refl, sym, ap, subst, ℕ, ◌+◌, Bool, true, false, ◌||◌, List, [], ◌∷◌, ◌++◌, length, inl, inr, arith, lit≤}
 use Rattle.std.proofs.lemmas.Bool.{false≢true}
 use Rattle.hw_text.specs.declared.placed.Placed.{Placed}
 use Rattle.hw_text.specs.declared.place.Place.{Place}
 use Rattle.hw_text.specs.Language.{◌⋅◌, ◌∣◌, Made, Each, One}
-use Rattle.hw_text.specs.Reading.{begins, Begins, BeginsWith, Anything, Leaves}
-use Rattle.hw_text.proofs.Reading.{begun, made-begins, then-begins, either-begins}
+use Rattle.hw_text.specs.Reading.{Begins, BeginsWith, Anything, Leaves}
+use Rattle.hw_text.proofs.Reading.{begun, then-begins}
 use Rattle.c_tree.specs.declared.expression.RightSide.{RightSide}
 use Rattle.c_tree.specs.declared.statement.Branch.{Branch}
 use Rattle.c_tree.specs.declared.statement.Otherwise.{Otherwise}
@@ -18,17 +17,17 @@ use Rattle.c_parse.specs.declared.keyword.Keyword.TheVariants as keyword
 use Rattle.c_parse.specs.declared.mark.Mark.TheVariants as mark
 use Rattle.c_parse.specs.Values.{Tokens, is_mark, is_word, integer_of}
 use Rattle.c_parse.specs.ExpressionGrammar.{Sign, Name, InFull}
-use Rattle.c_parse.specs.CallGrammar.{Word, SpellsType}
+use Rattle.c_parse.specs.CallGrammar.{Word}
 use Rattle.c_parse.specs.PlainGrammar.{SpellsPlain, SpellsCondition}
 use Rattle.c_parse.specs.CountGrammar.{SpellsCount, SpellsForeverHead}
-use Rattle.c_parse.specs.StatementGrammar.{SpellsStatement, plain, choice, loop, SpellsLoop, count, forever, SpellsStatements, no_statement, a_statement, SpellsBlock, block, SpellsBranch, branch, SpellsElseIfs, no_branch, SpellsOtherwise, no_else, SpellsElse, SpellsChoice, SpellsFor, NoElse, ends_body, count_of}
+use Rattle.c_parse.specs.StatementGrammar.{LinksFit, SpellsStatement, plain, choice, loop, SpellsLoop, count, forever, SpellsStatements, no_statement, a_statement, SpellsBlock, block, SpellsBranch, branch, no_branch, no_else, SpellsElse, SpellsChoice, SpellsFor, NoElse, ends_body, count_of}
 use Rattle.c_parse.proofs.TypedefTexts.{type_begins}
 use Rattle.c_parse.proofs.CountTexts.{a_count}
 use Rattle.c_parse.proofs.RightTexts.{a_right}
 use Rattle.c_parse.proofs.PlainTexts.{local-begins, assignment-begins, alone-begins, full-begins}
 use Rattle.c_parse.proofs.Lists.{Listed, any_token}
 use Rattle.c_parse.proofs.Steps.{Sample, both, sample_of}
-use Rattle.c_parse.proofs.Leaves.{put, the_sign, the_word, sign_begins, word_begins, name_begins, integer_begins, word_so, sign_so}
+use Rattle.c_parse.proofs.Leaves.{the_sign, sign_begins, word_begins, name_begins, integer_begins, word_so, sign_so}
 
 abbrev pub BlockForm : Bool → List Statement → Tokens → Type 0
 BlockForm full = Made (λ p. p.1.0) (Sign mark.OpenBrace ⋅ SpellsStatements full ⋅ Sign mark.CloseBrace)
@@ -44,6 +43,9 @@ LoopForm full = Made count_of (SpellsCount ⋅ SpellsBlock full) ∣ InFull full
 
 abbrev pub StatementForm : Bool → Statement → Tokens → Type 0
 StatementForm full = SpellsPlain full ∣ SpellsChoice full ∣ SpellsFor full
+
+pub fits-as : (full : Bool) (n m : ℕ) → n ≡ m → LinksFit full n → LinksFit full m
+fits-as full n m same fits = subst (LinksFit full) same fits
 
 module _ (full : Bool) where
   pub block_opened : (z : List Statement) (w : Tokens) → SpellsBlock full z w → BlockForm full z w
@@ -68,14 +70,18 @@ module _ (full : Bool) where
 
   pub statement_opened : (z : Statement) (w : Tokens) → SpellsStatement full z w → StatementForm full z w
   statement_opened z w (plain f s ts text) = inl text
-  statement_opened z w (choice f b bs o us vs ws s ts same split first others last) = inr (inl ((b, (bs, o)), same, (us, vs ++ ws, split, first, (vs, ws, refl, others, last))))
+  statement_opened z w (choice f b bs o us vs ws s ts same fits split first others last) =
+      let still : LinksFit full (0 + length bs) = fits-as full (length bs) (0 + length bs) (omega arith) fits in
+      inr (inl ((b, (bs, o)), same, (us, vs ++ ws, split, first, (still, (vs, ws, refl, others, last)))))
   statement_opened z w (loop f p q fs os us s ts split word opening inside) = inr (inr ((p, (q, s)), refl, (fs, os ++ us, split, word, (os, us, refl, opening, inside))))
 
   pub statement_shut : (z : Statement) (w : Tokens) → StatementForm full z w → SpellsStatement full z w
   statement_shut z w (inl text) = plain full z w text
   statement_shut z w (inr (inl text)) =
       let parts = text.2 in
-      choice full text.0.0 text.0.1.0 text.0.1.1 parts.0 parts.4.0 parts.4.1 z w text.1 (parts.2 ∙ ap (λ (l : Tokens). parts.0 ++ l) parts.4.2) parts.3 parts.4.3 parts.4.4
+      let more = parts.4.1 in
+      let fits : LinksFit full (length text.0.1.0) = fits-as full (0 + length text.0.1.0) (length text.0.1.0) (omega arith) parts.4.0 in
+      choice full text.0.0 text.0.1.0 text.0.1.1 parts.0 more.0 more.1 z w text.1 fits (parts.2 ∙ ap (λ (l : Tokens). parts.0 ++ l) more.2) parts.3 more.3 more.4
   statement_shut z w (inr (inr text)) =
       let parts = text.2 in
       loop full text.0.0 text.0.1.0 parts.0 parts.4.0 parts.4.1 z w (parts.2 ∙ ap (λ (l : Tokens). parts.0 ++ l) parts.4.2) parts.3 parts.4.3 (subst (λ s. SpellsLoop full s parts.4.1) (sym text.1) parts.4.4)
@@ -100,8 +106,14 @@ module _ (full : Bool) where
   pub a_condition : Sample (SpellsCondition full)
   a_condition = sample_of (λ p. p.1.0) (both (the_sign mark.OpenParenthesis) (both (a_right full) (the_sign mark.CloseParenthesis)))
 
-  pub no_more_branches : Sample (SpellsElse full)
-  no_more_branches = (([], otherwise.Nothing), [], ([], [], refl, no_branch full [] [] refl refl, no_else full otherwise.Nothing [] refl refl))
+  pub no_more_branches : (n : ℕ) → LinksFit full n → Sample (SpellsElse full n)
+  no_more_branches n fits =
+      let still : LinksFit full (n + 0) = fits-as full n (n + 0) (omega arith) fits in
+      (([], otherwise.Nothing), [], (still, ([], [], refl, no_branch full [] [] refl refl, no_else full otherwise.Nothing [] refl refl)))
+
+  -- a chain may have no link
+  pub first_fits : LinksFit full 0
+  first_fits = inr (lit≤ tt)
 
   module _ (test : Placed Token → Bool) (so : Bool) where
     pub block_begins : Begins test so (Sign mark.OpenBrace) → Begins test so (SpellsBlock full)
@@ -121,7 +133,7 @@ module _ (full : Bool) where
     plain_begins integer truth name opening stop z w m (inr (inr (inr text))) = full-begins test so full stop z w m text
 
     pub choice_begins : Begins test so (Word keyword.If) → Begins test so (SpellsChoice full)
-    choice_begins is z w m text = then-begins test so (SpellsBranch full) (SpellsElse full) (branch_begins is) text.0 w m text.2
+    choice_begins is z w m text = then-begins test so (SpellsBranch full) (SpellsElse full 0) (branch_begins is) text.0 w m text.2
 
     pub for_begins : Begins test so (Word keyword.For) → Begins test so (SpellsFor full)
     for_begins is z w m text = then-begins test so (Word keyword.For) (Sign mark.OpenParenthesis ⋅ SpellsLoop full) is text.0 w m text.2
@@ -171,8 +183,8 @@ module _ (full : Bool) where
       (λ z w text. (z, ap (λ (l : List Statement). l ++ z) (sym none), statements_opened z w text))
       (λ z w text. subst (λ (l : List Statement). SpellsStatements full (l ++ z) w) (sym none) (statements_shut z w text))
 
-  pub a_rest_of_else : Sample {X = List Branch × Otherwise} (Made (λ (p : Branch × (List Branch × Otherwise)). (p.0 ∷ p.1.0, p.1.1)) (SpellsBranch full ⋅ SpellsElse full) ∣ Made (λ (body : List Statement). ([], otherwise.Block body)) (SpellsBlock full))
-  a_rest_of_else = (([], otherwise.Block a_block.0), a_block.1, inr (a_block.0, refl, a_block.2))
+  pub a_rest_of_else : (n : ℕ) → Sample {X = List Branch × Otherwise} (Made (λ (p : Branch × (List Branch × Otherwise)). (p.0 ∷ p.1.0, p.1.1)) (SpellsBranch full ⋅ SpellsElse full (n + 1)) ∣ Made (λ (body : List Statement). ([], otherwise.Block body)) (SpellsBlock full))
+  a_rest_of_else n = (([], otherwise.Block a_block.0), a_block.1, inr (a_block.0, refl, a_block.2))
 
   pub a_loop : Sample (SpellsLoop full)
   a_loop =

@@ -13,8 +13,10 @@ pub mod PartGrammar
 pub mod PlainGrammar
 pub mod RangeEnds
 pub mod Ranges
+pub mod Refusals
 pub mod StatementGrammar
 pub mod Tokens
 pub mod TypedefGrammar
 pub mod UnitGrammar
 pub mod Values
+pub mod WholeUnits

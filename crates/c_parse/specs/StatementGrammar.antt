@@ -1,5 +1,5 @@
 -- The grammar of statements, in the user grammar or the full one (docs/formats/c.md).
-use Rattle.std.specs.Prelude.{◌≡◌, ◌||◌, Bool, IsTrue, List, [], ◌∷◌, ◌++◌, ⊤}
+use Rattle.std.specs.Prelude.{◌≡◌, ◌≤◌, ◌+◌, ◌⊎◌, ◌||◌, ℕ, Bool, IsTrue, List, [], ◌∷◌, ◌++◌, length, ⊤}
 use Rattle.hw_text.specs.declared.place.Place.{Place}
 use Rattle.hw_text.specs.declared.placed.Placed.{Placed}
 use Rattle.hw_text.specs.Language.{◌⋅◌, Made}
@@ -24,10 +24,14 @@ use Rattle.c_parse.specs.CountGrammar.{SpellsCount, SpellsForeverHead}
 abbrev pub count_of : (CountStart × CountEnd) × List Statement → Statement
 count_of p = Count p.0.0.class p.0.0.name p.0.0.from p.0.1.place p.0.1.below p.1
 
+-- in the grammar of users an `if` has at most 64 `else if`s
+abbrev pub LinksFit : Bool → ℕ → Type 0
+LinksFit full n = IsTrue full ⊎ (n ≤ 64)
+
 mutual
   pub data SpellsStatement : Bool → Statement → Tokens → Type 0 where
     plain : (full : Bool) (s : Statement) (ts : Tokens) → SpellsPlain full s ts → SpellsStatement full s ts
-    choice : (full : Bool) (b : Branch) (bs : List Branch) (o : Otherwise) (us vs ws : Tokens) (s : Statement) (ts : Tokens) → s ≡ If b bs o → ts ≡ us ++ (vs ++ ws) → SpellsBranch full b us → SpellsElseIfs full bs vs → SpellsOtherwise full o ws → SpellsStatement full s ts
+    choice : (full : Bool) (b : Branch) (bs : List Branch) (o : Otherwise) (us vs ws : Tokens) (s : Statement) (ts : Tokens) → s ≡ If b bs o → LinksFit full (length bs) → ts ≡ us ++ (vs ++ ws) → SpellsBranch full b us → SpellsElseIfs full bs vs → SpellsOtherwise full o ws → SpellsStatement full s ts
     loop : (full : Bool) (p q : Place) (fs os us : Tokens) (s : Statement) (ts : Tokens) → ts ≡ fs ++ (os ++ us) → Word keyword.For p fs → Sign mark.OpenParenthesis q os → SpellsLoop full s us → SpellsStatement full s ts
 
   -- behind "for" "(": the range and a block, or in full ";" ";" ")" block
@@ -58,16 +62,16 @@ mutual
     no_else : (full : Bool) (o : Otherwise) (ts : Tokens) → o ≡ otherwise.Nothing → ts ≡ [] → SpellsOtherwise full o ts
     an_else : (full : Bool) (p : Place) (body : List Statement) (es us : Tokens) (o : Otherwise) (ts : Tokens) → o ≡ otherwise.Block body → ts ≡ es ++ us → Word keyword.Else p es → SpellsBlock full body us → SpellsOtherwise full o ts
 
--- what stands behind the first condition and its block
-abbrev pub SpellsElse : Bool → List Branch × Otherwise → Tokens → Type 0
-SpellsElse full = SpellsElseIfs full ⋅ SpellsOtherwise full
+-- what stands behind the first condition and its block, and behind so many `else if`s
+abbrev pub SpellsElse : Bool → ℕ → List Branch × Otherwise → Tokens → Type 0
+SpellsElse full n p ts = LinksFit full (n + length p.0) × (SpellsElseIfs full ⋅ SpellsOtherwise full) p ts
 
 abbrev pub choice_of : Branch × (List Branch × Otherwise) → Statement
 choice_of p = If p.0 p.1.0 p.1.1
 
 -- "if" "(" rhs ")" block { "else" "if" "(" rhs ")" block } [ "else" block ]
 abbrev pub SpellsChoice : Bool → Statement → Tokens → Type 0
-SpellsChoice full = Made choice_of (SpellsBranch full ⋅ SpellsElse full)
+SpellsChoice full = Made choice_of (SpellsBranch full ⋅ SpellsElse full 0)
 
 -- "for" "(" and what stands behind
 abbrev pub SpellsFor : Bool → Statement → Tokens → Type 0

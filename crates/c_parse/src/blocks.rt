@@ -1,7 +1,9 @@
 //! The readers of statements and of their blocks.
 
-ghost use Rattle.std.specs.Prelude.{◌≡◌};
+ghost use Rattle.std.specs.Prelude.{◌≡◌, ◌&&◌, ◌||◌, nat_lt};
 ghost use Rattle.hw_text.specs.Reading.{Reads, Anything, BeginsWith, begins};
+ghost use Rattle.c_parse.specs.declared.keyword.Keyword.TheVariants as keyword;
+ghost use Rattle.c_parse.specs.Values.{is_word};
 ghost use Rattle.c_parse.specs.StatementGrammar.{SpellsStatement, SpellsStatements, SpellsBlock, SpellsBranch, SpellsElse, SpellsChoice, SpellsFor, NoElse, ends_body};
 
 use crate::counting::{count, forever_head};
@@ -10,6 +12,7 @@ use crate::leaf::{sign, stands_in_full};
 use crate::local_values::condition;
 use crate::mark::Mark;
 use crate::plain::plain;
+use crate::refusals::LINKS;
 use crate::token::Token;
 use crate::words::{stands_word, word};
 use c_tree::{Branch, Otherwise, Statement};
@@ -119,6 +122,13 @@ fn choice(
     })
 }
 
+/// Whether a chain of so many `else if`s goes on with an `if`, which is ahead.
+fn goes_on(tokens: &Cursor<'_, Placed<Token>>, full: bool, links: usize) -> bool
+    ensures { result ≡ (begins (is_word keyword.If) tokens.now && (full || nat_lt links 64)) }
+{
+    stands_word(tokens, Keyword::If) && (full || links < LINKS)
+}
+
 /// Reads each `else if`, and the last `else`.
 #[cycle(statements)]
 fn otherwise(
@@ -126,12 +136,12 @@ fn otherwise(
     tokens: &mut Cursor<'_, Placed<Token>>,
     full: bool,
 ) -> Result<(Rows<Branch>, Otherwise), ReadFault>
-    ensures { Reads (SpellsElse full) NoElse tokens.old tokens.new result }
+    ensures { Reads (SpellsElse full 0) NoElse tokens.old tokens.new result }
 {
     let mut others = Rows::new(alloc);
     'others: while stands_word(tokens, Keyword::Else) {
         word(tokens, Keyword::Else)?;
-        if !stands_word(tokens, Keyword::If) {
+        if !goes_on(tokens, full, others.len()) {
             let body = block(alloc, tokens, full)?;
             return Ok((others, Otherwise::Block(body)));
         }

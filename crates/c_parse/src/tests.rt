@@ -1,6 +1,13 @@
 mod flaws;
+mod generated;
+mod groups;
+mod limits;
+mod lines;
+mod literals;
 mod right_sides;
 mod units;
+mod whole_texts;
+mod words;
 
 use super::*;
 use hw_text::Place;

@@ -6,7 +6,7 @@ use hw_text::{Cursor, Place, ReadFault};
 use std::alloc::Global;
 use std::test::Fail;
 
-const THERMOSTAT: &[u8] = b"#include \"rts_ctl.h\"
+pub const THERMOSTAT: &[u8] = b"#include \"rts_ctl.h\"
 rts_t_onoff last = rts_e_onoff__off;
 void initialise(void) {
   last = rts_e_onoff__off;
@@ -25,7 +25,7 @@ void time_triggered(void) {
 }
 ";
 
-const THERMOSTAT_PRINTED: &[u8] = b"rts_t_onoff last = rts_e_onoff__off;
+pub const THERMOSTAT_PRINTED: &[u8] = b"rts_t_onoff last = rts_e_onoff__off;
 void initialise(void) {
     last = rts_e_onoff__off;
     rts_t_onoff c = rts_e_onoff__off;
@@ -49,10 +49,10 @@ void time_triggered(void) {
 }
 ";
 
-const ALARM: &[u8] =
+pub const ALARM: &[u8] =
     b"uint32_t seen; void initialise(void) { } void handle_hot(void) { uint32_t n = rts_count_hot(); seen = seen + n; }";
 
-const ALARM_PRINTED: &[u8] = b"uint32_t seen;
+pub const ALARM_PRINTED: &[u8] = b"uint32_t seen;
 void initialise(void) {
 }
 void handle_hot(void) {

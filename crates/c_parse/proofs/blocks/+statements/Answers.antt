@@ -3,8 +3,8 @@ use Rattle.c_parse.proofs.Leaves.{the_sign}
 use Rattle.c_parse.proofs.Lists.{list_read, member_stuck, member_read, member_shorter}
 use Rattle.std.proofs.Common.{sym, ◌∙◌}
 use Rattle.c_parse.specs.declared.mark.Mark.TheVariants as mark
-use Rattle.c_parse.proofs.StatementChoices.{block_left, branch_left, choice_there, for_there, plain_there, forever_there, count_there, else_begun, else_there, no_else_read, block_there, branch_there, branch_read}
-use Rattle.c_parse.proofs.StatementTexts.{no_statements, a_block, a_condition, no_more_branches, statements_listed, statements_begun, close_follow, a_rest_of_else, a_loop}
+use Rattle.c_parse.proofs.StatementChoices.{block_left, branch_left, choice_there, for_there, plain_there, forever_there, count_there, else_begun, none_fit, one_fits, more_fit, chain_ends, chain_goes_on, else_there, no_else_read, block_there, branch_there, branch_read}
+use Rattle.c_parse.proofs.StatementTexts.{first_fits, no_statements, a_block, a_condition, no_more_branches, statements_listed, statements_begun, close_follow, a_rest_of_else, a_loop}
 use Rattle.c_parse.proofs.Steps.{handed, as_value}
 use Rattle.std.proofs.Common.{ap, List, append-nil, arith}
 use Rattle.hw_text.proofs.Reading.{one-shorter, never-longer}
@@ -64,7 +64,7 @@ pub statements-returns : goal.statements-returns
 statements-returns t c = list_read (statements_listed _) _ c.all.invariant.0 (sym c.stands_end.ensures ∙ c.all-test.false)
 
 pub choice-returns-in_err-first : goal.choice-returns-in_err-first
-choice-returns-in_err-first t c = fails _ _ c.from_residual.ensures.1 c.in_err-first.ensures (stuck_in (made _ _ _ _) (no_more_branches _))
+choice-returns-in_err-first t c = fails _ _ c.from_residual.ensures.1 c.in_err-first.ensures (stuck_in (made _ _ _ _) (no_more_branches _ _ (first_fits _)))
 
 pub choice-returns-in_err-others : goal.choice-returns-in_err-others
 choice-returns-in_err-others t c = fails _ _ c.from_residual-in_err-others.ensures.1 c.in_err-others.ensures (stuck_last_by (passed (made _ _ _ _) c.in_ok-first.ensures) (λ m follows. follows))
@@ -73,28 +73,32 @@ pub choice-returns : goal.choice-returns
 choice-returns t c = done_by (passed (made _ _ _ _) c.in_ok-first.ensures) (λ m follows. follows) c.in_ok-others.ensures
 
 pub otherwise-others-init : goal.otherwise-others-init
-otherwise-others-init t c = (else_begun _ _ c.new-others.ensures _, omega arith)
+otherwise-others-init t c = (else_begun _ _ c.new-others.ensures _, omega arith, none_fit _ _ c.new-others.ensures)
 
 pub otherwise-returns-in_err-word : goal.otherwise-returns-in_err-word
-otherwise-returns-in_err-word t c = fails _ _ c.from_residual.ensures.1 c.in_err-word.ensures (stuck_in (else_there _ c.others.invariant.0 (sym c.stands_word.ensures ∙ c.others-test.true)) (a_rest_of_else _))
+otherwise-returns-in_err-word t c = fails _ _ c.from_residual.ensures.1 c.in_err-word.ensures (stuck_in (else_there _ c.others.invariant.2 c.others.invariant.0 (sym c.stands_word.ensures ∙ c.others-test.true)) (a_rest_of_else _ _))
 
 pub otherwise-returns-in_err-body : goal.otherwise-returns-in_err-body
-otherwise-returns-in_err-body t c = fails _ _ c.from_residual-in_err-body.ensures.1 c.in_err-body.ensures (stuck_last (block_there _ (passed (else_there _ c.others.invariant.0 (sym c.stands_word.ensures ∙ c.others-test.true)) c.in_ok-word.ensures) (sym c.stands_word-in-others.ensures ∙ c.if-not-stands_word.true)))
+otherwise-returns-in_err-body t c = fails _ _ c.from_residual-in_err-body.ensures.1 c.in_err-body.ensures (stuck_last (block_there _ (passed (else_there _ c.others.invariant.2 c.others.invariant.0 (sym c.stands_word.ensures ∙ c.others-test.true)) c.in_ok-word.ensures) (chain_ends _ _ _ c.len.ensures c.goes_on.ensures c.if-not-goes_on.true)))
 
-pub otherwise-returns-then-not-stands_word : goal.otherwise-returns-then-not-stands_word
-otherwise-returns-then-not-stands_word t c = as_value (ap (λ (l : List Branch). (l, otherwise.Block c.in_ok-body.body)) (sym (append-nil _))) (done (block_there _ (passed (else_there _ c.others.invariant.0 (sym c.stands_word.ensures ∙ c.others-test.true)) c.in_ok-word.ensures) (sym c.stands_word-in-others.ensures ∙ c.if-not-stands_word.true)) c.in_ok-body.ensures)
+pub otherwise-returns-then-not-goes_on : goal.otherwise-returns-then-not-goes_on
+otherwise-returns-then-not-goes_on t c = as_value (ap (λ (l : List Branch). (l, otherwise.Block c.in_ok-body.body)) (sym (append-nil _))) (done (block_there _ (passed (else_there _ c.others.invariant.2 c.others.invariant.0 (sym c.stands_word.ensures ∙ c.others-test.true)) c.in_ok-word.ensures) (chain_ends _ _ _ c.len.ensures c.goes_on.ensures c.if-not-goes_on.true)) c.in_ok-body.ensures)
 
 pub otherwise-returns-in_err-next : goal.otherwise-returns-in_err-next
-otherwise-returns-in_err-next t c = fails _ _ c.from_residual-in_err-next.ensures.1 c.in_err-next.ensures (stuck_in (branch_there _ (passed (else_there _ c.others.invariant.0 (sym c.stands_word.ensures ∙ c.others-test.true)) c.in_ok-word.ensures) (sym c.stands_word-in-others.ensures ∙ c.if-not-stands_word.false)) (no_more_branches _))
+otherwise-returns-in_err-next t c =
+    let on = chain_goes_on _ _ _ c.len.ensures c.goes_on.ensures c.if-not-goes_on.false in
+    fails _ _ c.from_residual-in_err-next.ensures.1 c.in_err-next.ensures (stuck_in (branch_there _ (passed (else_there _ c.others.invariant.2 c.others.invariant.0 (sym c.stands_word.ensures ∙ c.others-test.true)) c.in_ok-word.ensures) on.0) (no_more_branches _ _ (one_fits _ _ on.1)))
 
 pub otherwise-others-preserved : goal.otherwise-others-preserved
-otherwise-others-preserved t c = (
-  branch_read _ _ c.in_ok-push.ensures.ok (passed (branch_there _ (passed (else_there _ c.others.invariant.0 (sym c.stands_word.ensures ∙ c.others-test.true)) c.in_ok-word.ensures) (sym c.stands_word-in-others.ensures ∙ c.if-not-stands_word.false)) c.in_ok-next.ensures),
-  omega (arith, c.others.invariant.1, one-shorter _ _ _ _ _ c.in_ok-word.ensures, never-longer _ _ _ _ _ c.in_ok-next.ensures),
-)
+otherwise-others-preserved t c =
+    let on = chain_goes_on _ _ _ c.len.ensures c.goes_on.ensures c.if-not-goes_on.false in (
+      branch_read _ _ c.in_ok-push.ensures.ok (passed (branch_there _ (passed (else_there _ c.others.invariant.2 c.others.invariant.0 (sym c.stands_word.ensures ∙ c.others-test.true)) c.in_ok-word.ensures) on.0) c.in_ok-next.ensures),
+      omega (arith, c.others.invariant.1, one-shorter _ _ _ _ _ c.in_ok-word.ensures, never-longer _ _ _ _ _ c.in_ok-next.ensures),
+      more_fit _ _ _ _ c.in_ok-push.ensures.ok on.1,
+    )
 
 pub otherwise-returns : goal.otherwise-returns
-otherwise-returns t c = no_else_read _ c.others.invariant.0 (sym c.stands_word.ensures ∙ c.others-test.false)
+otherwise-returns t c = no_else_read _ c.others.invariant.2 c.others.invariant.0 (sym c.stands_word.ensures ∙ c.others-test.false)
 
 pub repetition-returns-in_err-word : goal.repetition-returns-in_err-word
 repetition-returns-in_err-word t c = fails _ _ c.from_residual.ensures.1 c.in_err-word.ensures (stuck_in (made _ _ _ _) (both (the_sign mark.OpenParenthesis) (a_loop _)))

@@ -1,7 +1,7 @@
 use Rattle.std.proofs.Common.{◌++◌, ◌+◌, ◌*◌, ◌≤◌, length}
 use Rattle.hw_text.specs.Language.{Each}
 use Rattle.hw_text.specs.Reading.{BeginsWith, Leaves}
-use Rattle.c_parse.specs.StatementGrammar.{SpellsStatement, SpellsStatements, SpellsElse, NoElse, ends_body}
+use Rattle.c_parse.specs.StatementGrammar.{SpellsStatement, SpellsStatements, LinksFit, SpellsElse, NoElse, ends_body}
 use Rattle.c_parse.proofs.StatementChoices.{so_far}
 use Rattle.c_parse.proofs.blocks.+statements.Given as goal
 
@@ -36,8 +36,8 @@ decreases-statements-all l = length l.tokens
 
 abbrev pub invariant-otherwise-others : goal.invariant-otherwise-others
 invariant-otherwise-others l =
-    Leaves (SpellsElse l.fn.full) NoElse l.fn.tokens l.tokens (so_far l.others) (SpellsElse l.fn.full) ×
-    (length l.tokens ≤ length l.fn.tokens)
+    Leaves (SpellsElse l.fn.full 0) NoElse l.fn.tokens l.tokens (so_far l.others) (SpellsElse l.fn.full (length l.others)) ×
+    (length l.tokens ≤ length l.fn.tokens) × LinksFit l.fn.full (length l.others)
 
 abbrev pub decreases-otherwise-others : goal.decreases-otherwise-others
 decreases-otherwise-others l = length l.tokens
