@@ -16,9 +16,12 @@ pub mod Lengths
 pub mod LevelTexts
 pub mod Levels
 pub mod Lists
+pub mod LiteralFronts
 pub mod LocalTexts
 pub mod LvalueTexts
+pub mod MarkFronts
 pub mod MarkTokens
+pub mod OneReading
 pub mod OpenedTexts
 pub mod OperandTexts
 pub mod ParameterTexts
@@ -30,6 +33,7 @@ pub mod RightSides
 pub mod RightTexts
 pub mod Samples
 pub mod SmallTexts
+pub mod Standing
 pub mod StatementChoices
 pub mod StatementTexts
 pub mod Steps
@@ -41,3 +45,5 @@ pub mod TwoParts
 pub mod TwoTokens
 pub mod TypeTexts
 pub mod TypedefTexts
+pub mod WordFronts
+pub mod Written

@@ -1,3 +1,4 @@
+pub mod Allowed
 pub mod Blanks
 pub mod CallGrammar
 pub mod CountGrammar
@@ -5,10 +6,14 @@ pub mod ExpressionGrammar
 pub mod Forms
 pub mod Keywords
 pub mod Levels
+pub mod Lexed
 pub mod Marks
 pub mod Operators
 pub mod PartGrammar
 pub mod PlainGrammar
+pub mod PrintedExpressions
+pub mod PrintedStatements
+pub mod PrintedUnits
 pub mod StatementGrammar
 pub mod Tokens
 pub mod TypedefGrammar
