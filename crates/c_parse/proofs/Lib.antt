@@ -6,6 +6,7 @@ pub mod CallBegins
 pub mod CallTexts
 pub mod Chains
 pub mod CountTexts
+pub mod ExpressionInduction
 pub mod FormTokens
 pub mod HeadingTexts
 pub mod InitialTexts
@@ -29,12 +30,14 @@ pub mod PartTexts
 pub mod Pieces
 pub mod PlainChoices
 pub mod PlainTexts
+pub mod PrintedPieces
 pub mod RightSides
 pub mod RightTexts
 pub mod Samples
 pub mod SmallTexts
 pub mod Standing
 pub mod StatementChoices
+pub mod StatementInduction
 pub mod StatementTexts
 pub mod Steps
 pub mod ThreeParts
