@@ -10,7 +10,7 @@ use Rattle.c_tree.specs.declared.expression.Base.{Base}
 use Rattle.c_tree.specs.declared.expression.Selector.{Selector}
 use Rattle.c_tree.specs.declared.expression.Lvalue.{Lvalue}
 use Rattle.c_tree.specs.declared.expression.Expression.{Expression}
-use Rattle.c_tree.specs.declared.expression.Expression.TheFolds.{ind-Expression, map-Expression, map-Selector, map-Lvalue}
+use Rattle.c_tree.specs.declared.expression.Expression.TheFolds.{ind-Expression, ind-Lvalue, map-Expression, map-Selector, map-Lvalue}
 use Rattle.c_tree.specs.declared.expression.Expression.TheOpen.{Expression-F, Selector-F, Lvalue-F}
 use Rattle.c_tree.specs.declared.expression.Expression.TheOpen as opened
 use Rattle.c_tree.specs.declared.expression.Expression.TheViews.{roll-Expression, roll-Selector, roll-Lvalue}
@@ -64,6 +64,13 @@ module _ (P : Expression → Type 0) (S : Selector → Type 0) (L : Lvalue → T
   pub of_each_expression : Cases → (x : Expression) → P x
   of_each_expression c =
       ind-Expression P S L
+      (λ x y is. subst (λ z. P (roll-Expression z)) is (step c y))
+      (λ x y is. subst (λ z. S (roll-Selector z)) is (part_step c y))
+      (λ x y is. subst (λ z. L (roll-Lvalue z)) is (lvalue_step c y))
+
+  pub of_each_lvalue : Cases → (x : Lvalue) → L x
+  of_each_lvalue c =
+      ind-Lvalue P S L
       (λ x y is. subst (λ z. P (roll-Expression z)) is (step c y))
       (λ x y is. subst (λ z. S (roll-Selector z)) is (part_step c y))
       (λ x y is. subst (λ z. L (roll-Lvalue z)) is (lvalue_step c y))

@@ -50,3 +50,5 @@ pub mod TypeTexts
 pub mod TypedefTexts
 pub mod WordFronts
 pub mod Written
+pub mod WrittenExpressions
+pub mod WrittenOperands
