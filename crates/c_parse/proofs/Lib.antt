@@ -50,5 +50,8 @@ pub mod TypeTexts
 pub mod TypedefTexts
 pub mod WordFronts
 pub mod Written
+pub mod WrittenCalls
 pub mod WrittenExpressions
 pub mod WrittenOperands
+pub mod WrittenStatements
+pub mod WrittenUnits

@@ -41,8 +41,8 @@ pub nothing-left : Has [] []
 unfolding token_at
 nothing-left = record { at = λ p. ([], p, refl, (refl, refl, refl)) }
 
-pub token-then : (text : List ℕ) (t : Token) (rest : List ℕ) (us : List Token) → StandsBefore text t rest → Has rest us → Has (text ++ rest) (t ∷ us)
-token-then text t rest us front more = record {
+pub token-next : (text : List ℕ) (t : Token) (rest : List ℕ) (us : List Token) → StandsBefore text t rest → Has rest us → Has (text ++ rest) (t ∷ us)
+token-next text t rest us front more = record {
   at = λ p.
   let bytes : List ℕ = text ++ rest in
   let behind = more.at (place_of_rest p bytes (skipped rest)) in
@@ -53,7 +53,7 @@ token-then text t rest us front more = record {
 
 pub token : (Q : List ℕ → Type 0) (text : List ℕ) (t : Token) → ((rest : List ℕ) → IsAllowed t → Q rest → StandsBefore text t rest) → Writes Q text (t ∷ [])
 token Q text t stands = record {
-  before = λ rest us q allowed more. token-then text t rest us (stands rest (All-head IsAllowed t [] allowed) q) more;
+  before = λ rest us q allowed more. token-next text t rest us (stands rest (All-head IsAllowed t [] allowed) q) more;
 }
 
 moved : (a b : List ℕ) (us : List Token) → skipped a ≡ skipped b → Has b us → Has a us
@@ -117,8 +117,8 @@ module _ {Q R : List ℕ → Type 0} {s t : List ℕ} {ts us : List Token} where
   }
 
 -- one behind the other, where anything may stand behind the first
-pub then : {R : List ℕ → Type 0} {s t : List ℕ} {ts us : List Token} → Writes Anything s ts → Writes R t us → Writes R (s ++ t) (ts ++ us)
-then a b = both a b (λ rest allowed r. tt)
+pub next : {R : List ℕ → Type 0} {s t : List ℕ} {ts us : List Token} → Writes Anything s ts → Writes R t us → Writes R (s ++ t) (ts ++ us)
+next a b = both a b (λ rest allowed r. tt)
 
 module _ {Q : List ℕ → Type 0} {s : List ℕ} {ts : List Token} where
   -- with blanks behind it
@@ -149,7 +149,7 @@ nothing {Q} = record { before = λ rest vs q all more. more }
 -- members, one behind the other
 pub members : {X : Type 0} (text : X → List ℕ) (tokens : X → List Token) → ((x : X) → Writes Anything (text x) (tokens x)) → (xs : List X) → Writes Anything (flat_map text xs) (flat_map tokens xs)
 members text tokens each [] = nothing
-members text tokens each (x ∷ xs) = then (each x) (members text tokens each xs)
+members text tokens each (x ∷ xs) = next (each x) (members text tokens each xs)
 
 -- a whole text has its tokens and no others
 pub has-tokens : (bytes : List ℕ) (ts : List Token) → Has bytes ts → IsLexedAs bytes ts

@@ -25,7 +25,7 @@ use Rattle.c_parse.proofs.ExpressionInduction.{Cases, of_each_expression, of_eac
 use Rattle.c_parse.proofs.MarkFronts.{NoSign, NoEqual}
 use Rattle.c_parse.proofs.PrintedPieces.{name, integer, closed, mark_space, minus, bang}
 use Rattle.c_parse.proofs.WordFronts.{Ended}
-use Rattle.c_parse.proofs.Written.{Writes, Anything, both, then, blank-behind, blank-before, space}
+use Rattle.c_parse.proofs.Written.{Writes, Anything, both, next, blank-behind, blank-before, space}
 use Rattle.c_parse.proofs.WrittenOperands.{Fits, PartFits, LvalueFits, ExpressionFits, fits, part_fits, open_ended, number-fits, truth-fits, value-fits, lvalue-fits}
 
 signed : (o : UnaryOperator) (p : Position) (text : Text) (tokens : Written) → Fits text tokens → Writes Ended (unary_sign o p ++ text (position_behind o)) (token.Mark (unary_mark o) ∷ tokens (position_behind o))
@@ -33,7 +33,7 @@ signed unary.Minus BehindMinus text tokens fit = both (blank-before (codes " ") 
 signed unary.Minus Whole text tokens fit = both minus (fit.written BehindMinus) (λ rest allowed ended. fit.unsigned rest allowed)
 signed unary.Minus Operand text tokens fit = both minus (fit.written BehindMinus) (λ rest allowed ended. fit.unsigned rest allowed)
 signed unary.Not p text tokens fit = both bang (fit.written Operand) (λ rest allowed ended. fit.unequal rest allowed)
-signed unary.Complement p text tokens fit = then (closed mark.Tilde refl) (fit.written Operand)
+signed unary.Complement p text tokens fit = next (closed mark.Tilde refl) (fit.written Operand)
 
 unary-no-equal : (o : UnaryOperator) (s rest : List ℕ) → NoEqual (unary_sign o Operand ++ s ++ rest)
 unary-no-equal unary.Minus s rest = refl
@@ -54,7 +54,7 @@ unary-fits start o at x fit = fits (opened.Unary start o at x) (record {
 
 cast-fits : (start : Place) (c : IntegerType) (at : Place) (x : Expression) → ExpressionFits x → ExpressionFits (roll-Expression (opened.Cast start c at x))
 cast-fits start c at x fit = fits (opened.Cast start c at x) (record {
-  written = λ p. then (both (then (closed mark.OpenParenthesis refl) (integer c)) (closed mark.CloseParenthesis refl) (λ rest allowed any. refl)) (fit.written Operand);
+  written = λ p. next (both (next (closed mark.OpenParenthesis refl) (integer c)) (closed mark.CloseParenthesis refl) (λ rest allowed any. refl)) (fit.written Operand);
   unequal = λ rest allowed. refl;
   unsigned = λ rest allowed. (refl, refl);
 })
@@ -68,7 +68,7 @@ operator o = subst (λ (bs : List ℕ). Writes Anything (bs ++ codes " ") (token
 
 -- what an operator joins
 joins : (o : BinaryOperator) (left right : List ℕ) (ls rs : List Token) → Writes Ended left ls → Writes Ended right rs → Writes Ended (left ++ codes " " ++ (binary_text o ++ codes " ") ++ right) (ls ++ token.Mark (binary_mark o) ∷ [] ++ rs)
-joins o left right ls rs a b = then (then (blank-behind (codes " ") space a (λ rest. refl)) (operator o)) b
+joins o left right ls rs a b = next (next (blank-behind (codes " ") space a (λ rest. refl)) (operator o)) b
 
 -- the same, as it is written
 joined : (o : BinaryOperator) (left right : List ℕ) (ls rs : List Token) → Writes Ended left ls → Writes Ended right rs → Writes Ended (left ++ codes " " ++ binary_text o ++ codes " " ++ right) (ls ++ token.Mark (binary_mark o) ∷ [] ++ rs)
@@ -79,8 +79,8 @@ joined o left right ls rs a b =
 -- in parentheses or not
 group : (p : Position) (s : List ℕ) (ts : List Token) → Writes Ended s ts → Writes Ended (opening p ++ s ++ closing p) (grouped_tokens p ts)
 group Whole s ts text = subst (λ (bs : List ℕ). Writes Ended bs ts) (sym (append-nil s)) text
-group Operand s ts text = open_ended (both (then (closed mark.OpenParenthesis refl) text) (closed mark.CloseParenthesis refl) (λ rest allowed any. refl))
-group BehindMinus s ts text = open_ended (both (then (closed mark.OpenParenthesis refl) text) (closed mark.CloseParenthesis refl) (λ rest allowed any. refl))
+group Operand s ts text = open_ended (both (next (closed mark.OpenParenthesis refl) text) (closed mark.CloseParenthesis refl) (λ rest allowed any. refl))
+group BehindMinus s ts text = open_ended (both (next (closed mark.OpenParenthesis refl) text) (closed mark.CloseParenthesis refl) (λ rest allowed any. refl))
 
 grouped : (p : Position) (o : BinaryOperator) (l r : List ℕ) (ts : List Token) → Writes Ended (l ++ codes " " ++ binary_text o ++ codes " " ++ r) ts → Writes Ended (opening p ++ l ++ codes " " ++ binary_text o ++ codes " " ++ r ++ closing p) (grouped_tokens p ts)
 grouped Whole o l r ts text = group Whole (l ++ codes " " ++ binary_text o ++ codes " " ++ r) ts text
@@ -101,12 +101,12 @@ binary-fits start o at l r a b =
 
 member-fits : (x : Named) → PartFits (roll-Selector (opened.Member x))
 member-fits x =
-    part_fits (opened.Member x) (codes "." ++ x.name) (token.Mark mark.Dot ∷ token.Name x.name ∷ []) refl refl (then (closed mark.Dot refl) (name x.name)) (λ rest. refl)
+    part_fits (opened.Member x) (codes "." ++ x.name) (token.Mark mark.Dot ∷ token.Name x.name ∷ []) refl refl (next (closed mark.Dot refl) (name x.name)) (λ rest. refl)
 
 index-fits : (x : Expression) → ExpressionFits x → PartFits (roll-Selector (opened.Index x))
 index-fits x fit =
     part_fits (opened.Index x) (codes "[" ++ expression_text x Whole ++ codes "]") (token.Mark mark.OpenBracket ∷ expression_tokens x Whole ++ token.Mark mark.CloseBracket ∷ [])
-    refl refl (open_ended (both (then (closed mark.OpenBracket refl) (fit.written Whole)) (closed mark.CloseBracket refl) (λ rest allowed any. refl))) (λ rest. refl)
+    refl refl (open_ended (both (next (closed mark.OpenBracket refl) (fit.written Whole)) (closed mark.CloseBracket refl) (λ rest allowed any. refl))) (λ rest. refl)
 
 cases : Cases ExpressionFits PartFits LvalueFits
 cases = record {

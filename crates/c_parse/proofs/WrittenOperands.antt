@@ -28,7 +28,7 @@ use Rattle.c_parse.proofs.ExpressionInduction.{OfEach}
 use Rattle.c_parse.proofs.MarkFronts.{NoSign, NoEqual}
 use Rattle.c_parse.proofs.PrintedPieces.{name, literal, truth, closed, NoOperator, name-no-operator, literal-no-operator}
 use Rattle.c_parse.proofs.WordFronts.{Ended}
-use Rattle.c_parse.proofs.Written.{Writes, Anything, both, then, weaker, nothing}
+use Rattle.c_parse.proofs.Written.{Writes, Anything, both, next, weaker, nothing}
 
 -- in each position, a text with its tokens, with which no operator before it goes on
 pub record Fits (text : Text) (tokens : Written) : Type 0 where
@@ -114,8 +114,8 @@ parts (p ∷ ps) each = both each.0.written (parts ps each.1) (λ rest allowed e
 based : (b : Base) → Writes Ended (base_text b) (base_tokens b)
 based (base.Variable x) = name x.name
 based (base.Pointed at x) =
-    open_ended (both (both (then (closed mark.OpenParenthesis refl) (closed mark.Star refl)) (name x.name) (λ rest allowed ended. tt)) (closed mark.CloseParenthesis refl) (λ rest allowed any. refl))
-based (base.Member x m) = then (both (name x.name) (closed mark.Arrow refl) (λ rest allowed any. refl)) (name m.name)
+    open_ended (both (both (next (closed mark.OpenParenthesis refl) (closed mark.Star refl)) (name x.name) (λ rest allowed ended. tt)) (closed mark.CloseParenthesis refl) (λ rest allowed any. refl))
+based (base.Member x m) = next (both (name x.name) (closed mark.Arrow refl) (λ rest allowed any. refl)) (name m.name)
 
 base-begun : (b : Base) (rest : List ℕ) (us : List Token) → AreAllowed (base_tokens b ++ us) → NoOperator (base_text b ++ rest)
 base-begun (base.Variable x) rest us allowed = name-no-operator x.name rest us allowed

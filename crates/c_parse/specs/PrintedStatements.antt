@@ -22,10 +22,10 @@ use Rattle.c_parse.specs.declared.token.Token.TheVariants as token
 use Rattle.c_parse.specs.PrintedExpressions.{integer_token, lvalue_tokens, call_tokens, right_tokens}
 
 -- ty: an integer type, `bool` or NAME
-abbrev pub type_tokens : TypeName → List Token
-type_tokens (class.Integer at kind) = integer_token kind ∷ []
-type_tokens (class.Truth at) = token.Keyword keyword.Bool ∷ []
-type_tokens (class.Defined x) = token.Name x.name ∷ []
+abbrev pub type_token : TypeName → Token
+type_token (class.Integer at kind) = integer_token kind
+type_token (class.Truth at) = token.Keyword keyword.Bool
+type_token (class.Defined x) = token.Name x.name
 
 -- [ "-" ] INT
 abbrev pub signed_tokens : SignedLiteral → List Token
@@ -83,8 +83,8 @@ branch_tokens_step b =
     token.Keyword keyword.If ∷ token.Mark mark.OpenParenthesis ∷ right_tokens b.condition ++ token.Mark mark.CloseParenthesis ∷ [] ++ block_tokens b.body
 
 abbrev pub statement_tokens_step : Statement-F (List Token) (List Token) (List Token) → List Token
-statement_tokens_step (s.Local class x value) = type_tokens class ++ token.Name x.name ∷ local_tokens value ++ token.Mark mark.Semicolon ∷ []
-statement_tokens_step (s.Assign target value) = lvalue_tokens target ++ token.Mark mark.Assign ∷ right_tokens value ++ token.Mark mark.Semicolon ∷ []
+statement_tokens_step (s.Local class x value) = type_token class ∷ token.Name x.name ∷ local_tokens value ++ token.Mark mark.Semicolon ∷ []
+statement_tokens_step (s.Assign target value) = lvalue_tokens target ++ token.Mark mark.Assign ∷ [] ++ right_tokens value ++ token.Mark mark.Semicolon ∷ []
 statement_tokens_step (s.Call c) = call_tokens c ++ token.Mark mark.Semicolon ∷ []
 statement_tokens_step (s.If first others otherwise) = first ++ flat_map else_tokens others ++ otherwise
 statement_tokens_step (s.Count class x from at below body) = count_start_tokens class x from ++ count_end_tokens x below ++ block_tokens body

@@ -25,11 +25,11 @@ use Rattle.c_parse.specs.declared.mark.Mark.TheVariants as mark
 use Rattle.c_parse.specs.declared.token.Token.{Token}
 use Rattle.c_parse.specs.declared.token.Token.TheVariants as token
 use Rattle.c_parse.specs.PrintedExpressions.{name_tokens, truth_token, separated, right_tokens}
-use Rattle.c_parse.specs.PrintedStatements.{type_tokens, signed_tokens, length_tokens, zero_tokens, statement_tokens}
+use Rattle.c_parse.specs.PrintedStatements.{type_token, signed_tokens, length_tokens, zero_tokens, statement_tokens}
 
 -- ty NAME [ "[" INT "]" ]
 abbrev pub declared_tokens : TypeName → Named → Option Literal → List Token
-declared_tokens class x length = type_tokens class ++ token.Name x.name ∷ length_tokens length
+declared_tokens class x length = type_token class ∷ token.Name x.name ∷ length_tokens length
 
 -- "typedef" "enum" "{" NAME { "," NAME } "}" NAME ";"
 abbrev pub enumeration_tokens : Enumeration → List Token
@@ -78,7 +78,7 @@ star_tokens b = if b then token.Mark mark.Star ∷ [] else []
 
 -- ty [ "*" ] NAME
 abbrev pub parameter_tokens : Parameter → List Token
-parameter_tokens p = type_tokens p.class ++ star_tokens p.is_pointer ++ token.Name p.name.name ∷ []
+parameter_tokens p = type_token p.class ∷ star_tokens p.is_pointer ++ token.Name p.name.name ∷ []
 
 -- "void" | parameter { "," parameter }
 abbrev pub parameters_tokens : List Parameter → List Token
@@ -88,7 +88,7 @@ parameters_tokens (p ∷ ps) = separated parameter_tokens (p ∷ ps)
 -- "void" | ty
 abbrev pub result_tokens : Option TypeName → List Token
 result_tokens None = token.Keyword keyword.Void ∷ []
-result_tokens (Some class) = type_tokens class
+result_tokens (Some class) = type_token class ∷ []
 
 -- NAME "(" parameters ")"
 abbrev pub signature_tokens : Named → List Parameter → List Token
