@@ -16,6 +16,7 @@ pub mod Leaves
 pub mod Lengths
 pub mod LevelTexts
 pub mod Levels
+pub mod LevelsClimbed
 pub mod Lists
 pub mod LiteralFronts
 pub mod LocalTexts
@@ -31,6 +32,9 @@ pub mod Pieces
 pub mod PlainChoices
 pub mod PlainTexts
 pub mod PrintedPieces
+pub mod Respelled
+pub mod RespelledExpressions
+pub mod RespelledWords
 pub mod RightSides
 pub mod RightTexts
 pub mod Samples
@@ -48,6 +52,7 @@ pub mod TwoParts
 pub mod TwoTokens
 pub mod TypeTexts
 pub mod TypedefTexts
+pub mod UnplacedForms
 pub mod WordFronts
 pub mod Written
 pub mod WrittenCalls

@@ -18,4 +18,5 @@ pub mod StatementGrammar
 pub mod Tokens
 pub mod TypedefGrammar
 pub mod UnitGrammar
+pub mod UserUnits
 pub mod Values

@@ -5,4 +5,6 @@ pub mod Operators
 pub mod Printing
 pub mod Statements
 pub mod Types
+pub mod Unplaced
+pub mod UnplacedUnits
 pub mod Words
