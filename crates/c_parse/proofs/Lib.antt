@@ -33,7 +33,9 @@ pub mod PlainChoices
 pub mod PlainTexts
 pub mod PrintedPieces
 pub mod Respelled
+pub mod RespelledCalls
 pub mod RespelledExpressions
+pub mod RespelledStatements
 pub mod RespelledWords
 pub mod RightSides
 pub mod RightTexts
@@ -53,6 +55,7 @@ pub mod TwoTokens
 pub mod TypeTexts
 pub mod TypedefTexts
 pub mod UnplacedForms
+pub mod UnplacedStatements
 pub mod WordFronts
 pub mod Written
 pub mod WrittenCalls
