@@ -36,6 +36,7 @@ pub mod Respelled
 pub mod RespelledCalls
 pub mod RespelledExpressions
 pub mod RespelledStatements
+pub mod RespelledUnits
 pub mod RespelledWords
 pub mod RightSides
 pub mod RightTexts
