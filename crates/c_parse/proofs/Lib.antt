@@ -31,6 +31,7 @@ pub mod PartTexts
 pub mod Pieces
 pub mod PlainChoices
 pub mod PlainTexts
+pub mod PrintedLaw
 pub mod PrintedPieces
 pub mod Respelled
 pub mod RespelledCalls

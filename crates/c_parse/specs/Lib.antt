@@ -11,6 +11,7 @@ pub mod Marks
 pub mod Operators
 pub mod PartGrammar
 pub mod PlainGrammar
+pub mod Printed
 pub mod PrintedExpressions
 pub mod PrintedStatements
 pub mod PrintedUnits

@@ -7,6 +7,7 @@ ghost use Rattle.c_tree.specs.Items.{unit_text};
 ghost use Rattle.c_tree.specs.UnplacedUnits.{SameUnit};
 ghost use Rattle.c_parse.specs.Allowed.{AreAllowed};
 ghost use Rattle.c_parse.specs.Lexed.{IsLexedAs};
+ghost use Rattle.c_parse.specs.Printed.{IsPrintedText};
 ghost use Rattle.c_parse.specs.PrintedUnits.{unit_tokens};
 ghost use Rattle.c_parse.specs.UnitGrammar.{SpellsUnit};
 ghost use Rattle.c_parse.specs.UserUnits.{is_user_unit};
@@ -23,4 +24,10 @@ pub fn printed_has_tokens()
 /// the same but for places.
 pub fn printed_tokens_are_a_unit()
     ensures { (full : Bool) (u : CUnit) (ts : Tokens) (end : Place) → map (λ t. t.token) ts ≡ unit_tokens u → IsTrue (full || is_user_unit u) → (q : CUnit) × SpellsUnit full end q ts × SameUnit u q }
+{}
+
+/// The law of printing and reading: the canonical text of a unit is a text of the full grammar, and
+/// where the unit is a user's of the users' grammar, of a unit that is the same but for places.
+pub fn printed_is_text()
+    ensures { (full : Bool) (u : CUnit) → AreAllowed (unit_tokens u) → IsTrue (full || is_user_unit u) → IsPrintedText full u (unit_text u) }
 {}
