@@ -3,6 +3,8 @@ pub mod Items
 pub mod Numerals
 pub mod Operators
 pub mod Printing
+pub mod Spelled
+pub mod SpelledUnits
 pub mod Statements
 pub mod Types
 pub mod Unplaced
