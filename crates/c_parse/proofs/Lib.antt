@@ -1,3 +1,6 @@
+pub mod AllowedExpressions
+pub mod AllowedStatements
+pub mod AllowedUnits
 pub mod ArgumentLists
 pub mod ArgumentTexts
 pub mod BaseChoice

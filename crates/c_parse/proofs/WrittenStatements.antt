@@ -19,8 +19,7 @@ use Rattle.c_tree.specs.declared.statement.Otherwise.TheOpen.{Statement-F, Branc
 use Rattle.c_tree.specs.declared.statement.Otherwise.TheOpen as opened
 use Rattle.c_tree.specs.declared.statement.Otherwise.TheViews.{roll-Statement, roll-Branch, roll-Otherwise}
 use Rattle.c_tree.specs.Expressions.{lvalue_text, call_text, right_text}
-use Rattle.c_tree.specs.Statements.{Lines, deeper, all_lines, block_text, local_text, count_text, forever_text, else_text, otherwise_step, branch_step, statement_step, statement_text, branch_text, otherwise_text}
-use Rattle.c_parse.specs.PrintedExpressions.{integer_token}
+use Rattle.c_tree.specs.Statements.{Lines, deeper, all_lines, block_text, local_text, count_start_text, count_end_text, forever_text, else_text, otherwise_step, branch_step, statement_step, statement_text, branch_text, otherwise_text}
 use Rattle.c_parse.specs.PrintedStatements.{signed_tokens, zero_tokens, local_tokens, count_start_tokens, count_end_tokens, forever_tokens, block_tokens, else_tokens, otherwise_tokens_step, branch_tokens_step, statement_tokens_step, statement_tokens, branch_tokens, otherwise_tokens}
 use Rattle.c_parse.specs.declared.keyword.Keyword.TheVariants as keyword
 use Rattle.c_parse.specs.declared.mark.Mark.TheVariants as mark
@@ -141,22 +140,24 @@ for_parenthesis = next (word_space keyword.For) (closed mark.OpenParenthesis ref
 less : Writes Anything (codes " < ") (token.Mark mark.Less ∷ [])
 less = blank-before (codes " ") space (mark_space mark.Less)
 
-count-tokens : (head from below : List Token) (s x l i c : Token) → (head ++ from ++ s ∷ []) ++ ((x ∷ l ∷ below) ++ s ∷ x ∷ i ∷ c ∷ []) ≡ head ++ from ++ s ∷ [] ++ x ∷ [] ++ l ∷ [] ++ below ++ s ∷ [] ++ x ∷ [] ++ (i ∷ c ∷ [])
-count-tokens head from below s x l i c = simp append_assoc
-
-count-head : (class : IntegerType) (x : Named) (from below : SignedLiteral) → Writes Anything (count_text class x from below) (count_start_tokens class x from ++ count_end_tokens x below)
-count-head class x from below =
-    let head : List Token = token.Keyword keyword.For ∷ token.Mark mark.OpenParenthesis ∷ integer_token class ∷ token.Name x.name ∷ token.Mark mark.Assign ∷ [] in
+count-start : (class : IntegerType) (x : Named) (from : SignedLiteral) → Writes Anything (count_start_text class x from) (count_start_tokens class x from)
+count-start class x from =
     let begun = both (next (next for_parenthesis (blank-behind (codes " ") space (integer class) (λ rest. refl))) (name x.name)) assign (λ rest allowed any. refl) in
-    let from_there = both (next begun (signed from)) (mark_space mark.Semicolon) (λ rest allowed any. refl) in
-    let compared = next (both (next from_there (name x.name)) less (λ rest allowed any. refl)) (signed below) in
+    both (next begun (signed from)) (mark_space mark.Semicolon) (λ rest allowed any. refl)
+
+end-tokens : (below : List Token) (x l s i c : Token) → (x ∷ l ∷ below) ++ s ∷ x ∷ i ∷ c ∷ [] ≡ (x ∷ l ∷ below) ++ s ∷ [] ++ x ∷ [] ++ (i ∷ c ∷ [])
+end-tokens below x l s i c = simp append_assoc
+
+count-end : (x : Named) (below : SignedLiteral) → Writes Anything (count_end_text x below) (count_end_tokens x below)
+count-end x below =
+    let compared = next (both (name x.name) less (λ rest allowed any. refl)) (signed below) in
     let stepped = next (both compared (mark_space mark.Semicolon) (λ rest allowed any. refl)) (name x.name) in
-    known-as refl (count-tokens head (signed_tokens from) (signed_tokens below) (token.Mark mark.Semicolon) (token.Name x.name) (token.Mark mark.Less) (token.Mark mark.Increment) (token.Mark mark.CloseParenthesis))
+    known-as refl (end-tokens (signed_tokens below) (token.Name x.name) (token.Mark mark.Less) (token.Mark mark.Semicolon) (token.Mark mark.Increment) (token.Mark mark.CloseParenthesis))
     (both stepped (next (closed mark.Increment refl) (closed mark.CloseParenthesis refl)) (λ rest allowed any. refl))
 
 count-lined : (class : IntegerType) (x : Named) (from : SignedLiteral) (at : Place) (below : SignedLiteral) (body : List Statement) → OfEach StatementLined body → StatementLined (roll-Statement (opened.Count class x from at below body))
 count-lined class x from at below body each = statement-lined (opened.Count class x from at below body) (record {
-  written = λ margin gap. next (count-head class x from below) (block body each margin gap);
+  written = λ margin gap. next (next (count-start class x from) (count-end x below)) (block body each margin gap);
 })
 
 forever-head : Writes Anything forever_text forever_tokens
