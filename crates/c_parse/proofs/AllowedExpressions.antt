@@ -1,5 +1,5 @@
 -- The canonical tokens of expressions of which the names and literals are spelled are as the types of trees allow.
-use Rattle.std.proofs.Common.{◌≡◌, ℕ, Bool, true, false, ◌&&◌, if◌then◌else◌, List, [], ◌∷◌, ◌++◌, map, refl, sym, ap, ◌∙◌, subst}
+use Rattle.std.proofs.Common.{◌≡◌, ℕ, Bool, true, if◌then◌else◌, List, [], ◌∷◌, ◌++◌, map, refl, sym, ◌∙◌, subst}
 use Rattle.std.proofs.lemmas.Bool.{and_parts}
 use Rattle.std.proofs.lemmas.List.Elements.{All-nil, All-cons, All-head, All-tail}
 use Rattle.std.specs.List.{flat_map, list_all}
@@ -8,10 +8,6 @@ use Rattle.c_tree.specs.Expressions.{position_behind}
 use Rattle.c_tree.specs.Numerals.{is_numeral}
 use Rattle.c_tree.specs.Spelled.{is_spelled_named, is_spelled_base, spelled_step, spelled_part_step, spelled_lvalue_step, is_spelled_expression, is_spelled_part, is_spelled_lvalue, is_spelled_argument, is_spelled_call, is_spelled_right}
 use Rattle.c_tree.specs.Words.{is_identifier}
-use Rattle.c_tree.specs.declared.integer_type.IntegerType.{IntegerType}
-use Rattle.c_tree.specs.declared.named.Named.{Named}
-use Rattle.c_tree.specs.declared.named.Literal.{Literal}
-use Rattle.c_tree.specs.declared.operator.UnaryOperator.{UnaryOperator}
 use Rattle.c_tree.specs.declared.operator.BinaryOperator.{BinaryOperator}
 use Rattle.c_tree.specs.declared.print_expression.Position.{Position}
 use Rattle.c_tree.specs.declared.print_expression.Position.TheVariants.{Whole, Operand, BehindMinus}
@@ -25,11 +21,11 @@ use Rattle.c_tree.specs.declared.expression.Base.TheVariants as base
 use Rattle.c_tree.specs.declared.expression.Selector.{Selector}
 use Rattle.c_tree.specs.declared.expression.Lvalue.{Lvalue}
 use Rattle.c_tree.specs.declared.expression.Expression.{Expression}
-use Rattle.c_tree.specs.declared.expression.Expression.TheFolds.{fold-roll-Expression, fold-roll-Selector, fold-roll-Lvalue, map-Expression, map-Selector, map-Lvalue}
+use Rattle.c_tree.specs.declared.expression.Expression.TheFolds.{fold-roll-Expression, fold-roll-Selector, fold-roll-Lvalue, map-Expression, map-Selector}
 use Rattle.c_tree.specs.declared.expression.Expression.TheOpen.{Expression-F, Selector-F, Lvalue-F}
 use Rattle.c_tree.specs.declared.expression.Expression.TheOpen as opened
 use Rattle.c_tree.specs.declared.expression.Expression.TheViews.{roll-Expression, roll-Selector, roll-Lvalue}
-use Rattle.c_parse.specs.Allowed.{IsAllowed, AreAllowed}
+use Rattle.c_parse.proofs.Allowed.{IsAllowed, AreAllowed}
 use Rattle.c_parse.specs.ExpressionGrammar.{Layer}
 use Rattle.c_parse.specs.PrintedExpressions.{Written, unary_mark, binary_mark, grouped_tokens, base_tokens, expression_tokens_step, selector_tokens_step, lvalue_tokens_step, expression_tokens, selector_tokens, lvalue_tokens, behind_comma_tokens, separated, argument_tokens, call_tokens, right_tokens}
 use Rattle.c_parse.specs.declared.keyword.Keyword.{Keyword}

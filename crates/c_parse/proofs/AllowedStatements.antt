@@ -1,16 +1,15 @@
 -- The canonical tokens of statements of which the names and literals are spelled are as the types of trees allow.
-use Rattle.std.proofs.Common.{◌≡◌, ℕ, Bool, true, false, ◌&&◌, if◌then◌else◌, List, [], ◌∷◌, ◌++◌, map, codes, refl, sym, ap, ◌∙◌, subst}
+use Rattle.std.proofs.Common.{◌≡◌, ℕ, Bool, true, false, ◌&&◌, if◌then◌else◌, List, [], ◌∷◌, ◌++◌, map, codes, refl, sym, ◌∙◌, subst}
 use Rattle.std.proofs.lemmas.Bool.{and_parts}
-use Rattle.std.specs.List.{flat_map, list_all}
+use Rattle.std.specs.List.{list_all}
 use Rattle.hw_text.specs.declared.place.Place.{Place}
 use Rattle.c_tree.specs.Numerals.{is_numeral}
-use Rattle.c_tree.specs.Spelled.{is_spelled_named, is_spelled_signed, is_spelled_class, is_spelled_lvalue, is_spelled_call, is_spelled_right, is_spelled_local, is_spelled_count, spelled_statement_step, spelled_branch_step, spelled_otherwise_step, is_spelled_statement, is_spelled_branch, is_spelled_otherwise}
+use Rattle.c_tree.specs.Spelled.{is_spelled_named, is_spelled_signed, is_spelled_class, is_spelled_lvalue, is_spelled_right, is_spelled_local, is_spelled_count, spelled_statement_step, spelled_branch_step, spelled_otherwise_step, is_spelled_statement, is_spelled_branch, is_spelled_otherwise}
 use Rattle.c_tree.specs.declared.integer_type.IntegerType.{IntegerType}
 use Rattle.c_tree.specs.declared.named.Named.{Named}
 use Rattle.c_tree.specs.declared.named.SignedLiteral.{SignedLiteral}
 use Rattle.c_tree.specs.declared.type_name.TypeName.{TypeName}
 use Rattle.c_tree.specs.declared.type_name.TypeName.TheVariants as class
-use Rattle.c_tree.specs.declared.expression.Call.{Call}
 use Rattle.c_tree.specs.declared.expression.Lvalue.{Lvalue}
 use Rattle.c_tree.specs.declared.expression.RightSide.{RightSide}
 use Rattle.c_tree.specs.declared.statement.LocalValue.{LocalValue}

@@ -1,10 +1,10 @@
 -- The canonical tokens of a unit of which the names and literals are spelled are as the types of trees allow.
-use Rattle.std.proofs.Common.{◌≡◌, ℕ, Bool, true, false, ◌&&◌, if◌then◌else◌, List, [], ◌∷◌, ◌++◌, map, Option, Some, None, refl, sym, ap, ◌∙◌}
+use Rattle.std.proofs.Common.{◌≡◌, Bool, true, false, ◌&&◌, if◌then◌else◌, List, [], ◌∷◌, map, Option, Some, None, refl, sym, ap, ◌∙◌}
 use Rattle.std.proofs.lemmas.Bool.{and_parts}
-use Rattle.std.specs.List.{flat_map, list_all}
+use Rattle.std.specs.List.{list_all}
 use Rattle.c_tree.specs.Items.{class_of}
 use Rattle.c_tree.specs.Spelled.{is_spelled_named, is_spelled_class, is_spelled_statement}
-use Rattle.c_tree.specs.SpelledUnits.{is_spelled_length, is_spelled_declared, is_spelled_enumeration, is_spelled_member, is_spelled_structure, is_spelled_initial, is_spelled_variable, is_spelled_external, is_spelled_pointer, is_spelled_parameter, is_spelled_result, is_spelled_signature, is_spelled_prototype, is_spelled_returned, is_spelled_opening, is_spelled_body, is_spelled_function, is_spelled_item, is_spelled_unit}
+use Rattle.c_tree.specs.SpelledUnits.{is_spelled_length, is_spelled_declared, is_spelled_enumeration, is_spelled_member, is_spelled_structure, is_spelled_initial, is_spelled_variable, is_spelled_pointer, is_spelled_parameter, is_spelled_result, is_spelled_signature, is_spelled_prototype, is_spelled_returned, is_spelled_opening, is_spelled_body, is_spelled_function, is_spelled_item, is_spelled_unit}
 use Rattle.c_tree.specs.declared.named.Named.{Named}
 use Rattle.c_tree.specs.declared.named.Literal.{Literal}
 use Rattle.c_tree.specs.declared.type_name.TypeName.{TypeName}
@@ -14,7 +14,6 @@ use Rattle.c_tree.specs.declared.item.Structure.{Structure}
 use Rattle.c_tree.specs.declared.item.InitialValue.{InitialValue}
 use Rattle.c_tree.specs.declared.item.InitialValue.TheVariants as initial
 use Rattle.c_tree.specs.declared.item.Variable.{Variable}
-use Rattle.c_tree.specs.declared.item.External.{External}
 use Rattle.c_tree.specs.declared.item.Pointer.{Pointer}
 use Rattle.c_tree.specs.declared.item.Parameter.{Parameter}
 use Rattle.c_tree.specs.declared.item.Prototype.{Prototype}
@@ -24,13 +23,12 @@ use Rattle.c_tree.specs.declared.item.Item.{Item}
 use Rattle.c_tree.specs.declared.item.Item.TheVariants as item
 use Rattle.c_tree.specs.declared.statement.Statement.{Statement}
 use Rattle.c_tree.specs.declared.unit.Unit.{Unit as CUnit}
-use Rattle.c_parse.specs.Allowed.{AreAllowed}
+use Rattle.c_parse.proofs.Allowed.{AreAllowed}
 use Rattle.c_parse.specs.PrintedExpressions.{name_tokens}
-use Rattle.c_parse.specs.PrintedStatements.{type_token, length_tokens, statement_tokens}
-use Rattle.c_parse.specs.PrintedUnits.{declared_tokens, enumeration_tokens, member_tokens, structure_tokens, static_tokens, initial_tokens, variable_tokens, external_tokens, pointer_tokens, star_tokens, parameter_tokens, parameters_tokens, result_tokens, signature_tokens, prototype_tokens, return_tokens, function_tokens, item_tokens, unit_tokens}
+use Rattle.c_parse.specs.PrintedStatements.{length_tokens, statement_tokens}
+use Rattle.c_parse.specs.PrintedUnits.{declared_tokens, enumeration_tokens, member_tokens, structure_tokens, static_tokens, initial_tokens, variable_tokens, pointer_tokens, star_tokens, parameter_tokens, parameters_tokens, result_tokens, signature_tokens, prototype_tokens, return_tokens, function_tokens, item_tokens, unit_tokens}
 use Rattle.c_parse.specs.declared.keyword.Keyword.TheVariants as keyword
 use Rattle.c_parse.specs.declared.mark.Mark.TheVariants as mark
-use Rattle.c_parse.specs.declared.token.Token.{Token}
 use Rattle.c_parse.specs.declared.token.Token.TheVariants as token
 use Rattle.c_parse.proofs.AllowedExpressions.{Allowed, none, and-then, sign, word, named, literal, flat, parted, right_side}
 use Rattle.c_parse.proofs.AllowedStatements.{typed, signed, zero, statement}

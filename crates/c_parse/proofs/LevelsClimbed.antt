@@ -1,8 +1,8 @@
 -- Expressions of a level, where a looser one is wanted.
-use Rattle.std.proofs.Common.{◌≡◌, ◌<◌, ◌≤◌, ℕ, zero, suc, ◌+◌, Bool, List, [], ◌++◌, refl, sym, subst, arith}
+use Rattle.std.proofs.Common.{◌≡◌, ◌<◌, ◌≤◌, ℕ, zero, suc, ◌+◌, Bool, [], refl, sym, subst, arith}
 use Rattle.std.proofs.lemmas.List.{append-nil}
 use Rattle.c_tree.specs.declared.expression.Expression.{Expression}
-use Rattle.c_parse.specs.ExpressionGrammar.{SpellsExpression, SpellsOperations, SpellsPrefix, chain, prefix, no_operation}
+use Rattle.c_parse.specs.ExpressionGrammar.{SpellsExpression, SpellsPrefix, chain, prefix, no_operation}
 use Rattle.c_parse.specs.Levels.{prefix_level}
 use Rattle.c_parse.specs.Values.{Tokens}
 

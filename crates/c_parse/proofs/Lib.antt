@@ -1,3 +1,4 @@
+pub mod Allowed
 pub mod AllowedExpressions
 pub mod AllowedStatements
 pub mod AllowedUnits
@@ -38,7 +39,11 @@ pub mod PrintedLaw
 pub mod PrintedPieces
 pub mod Respelled
 pub mod RespelledCalls
+pub mod RespelledDeclarations
 pub mod RespelledExpressions
+pub mod RespelledForms
+pub mod RespelledOperations
+pub mod RespelledPlains
 pub mod RespelledStatements
 pub mod RespelledUnits
 pub mod RespelledWords

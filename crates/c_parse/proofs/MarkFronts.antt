@@ -1,8 +1,7 @@
 -- Marks at the front of a text.
-use Rattle.std.proofs.Common.{◌≡◌, ℕ, Bool, true, false, List, [], ◌∷◌, ◌++◌, codes, Some, refl}
+use Rattle.std.proofs.Common.{◌≡◌, ℕ, Bool, true, false, List, [], ◌∷◌, codes, refl}
 use Rattle.std.proofs.lemmas.Bool.{false≢true}
 use Rattle.hw_text.specs.Text.{begins_with}
-use Rattle.c_parse.specs.Blanks.{skipped}
 use Rattle.c_parse.specs.Marks.{mark_text, mark_at}
 use Rattle.c_parse.specs.Tokens.{mark_token, token_at}
 use Rattle.c_parse.specs.declared.mark.Mark.{Mark}

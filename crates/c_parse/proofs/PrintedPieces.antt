@@ -3,12 +3,12 @@ use Rattle.std.proofs.Common.{◌≡◌, ◌==◌, ℕ, Bool, true, false, List,
 use Rattle.std.proofs.lemmas.Bool.Decides.{nat_tests}
 use Rattle.std.proofs.lemmas.List.Elements.{All-head}
 use Rattle.hw_text.specs.Name.{is_digit}
-use Rattle.c_tree.specs.Words.{begins_name, is_identifier}
+use Rattle.c_tree.specs.Words.{begins_name}
 use Rattle.c_tree.specs.Numerals.{is_numeral}
 use Rattle.c_tree.specs.Types.{integer_text}
 use Rattle.c_tree.specs.Printing.{truth_text}
 use Rattle.c_tree.specs.declared.integer_type.IntegerType.{IntegerType}
-use Rattle.c_parse.specs.Allowed.{IsAllowed, AreAllowed}
+use Rattle.c_parse.proofs.Allowed.{IsAllowed, AreAllowed}
 use Rattle.c_parse.specs.Keywords.{keyword_text}
 use Rattle.c_parse.specs.Marks.{mark_text}
 use Rattle.c_parse.specs.PrintedExpressions.{integer_token, truth_token}

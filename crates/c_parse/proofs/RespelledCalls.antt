@@ -1,11 +1,9 @@
 -- The canonical tokens of lists, calls, types and the values of variables spell them.
-use Rattle.std.proofs.Common.{◌≡◌, ℕ, Bool, true, false, if◌then◌else◌, List, [], ◌∷◌, ◌++◌, map, codes, Option, Some, None, refl, ap}
-use Rattle.std.specs.Prelude.{⊤}
-use Rattle.std.specs.List.{flat_map, list_all}
+use Rattle.std.proofs.Common.{Bool, true, false, if◌then◌else◌, List, [], ◌∷◌, ◌++◌, map, codes, Option, Some, None, refl, ap}
+use Rattle.std.specs.List.{flat_map}
 use Rattle.std.specs.Option.{option_map}
-use Rattle.hw_text.specs.Language.{One, ◌⋅◌, Each, Made}
-use Rattle.c_tree.specs.Unplaced.{origin, unplaced_named, unplaced_literal, unplaced_signed, unplaced_class, unplaced_expression, unplaced_argument, unplaced_call, unplaced_right, unplaced_local}
-use Rattle.c_tree.specs.declared.named.Named.{Named}
+use Rattle.hw_text.specs.Language.{Each}
+use Rattle.c_tree.specs.Unplaced.{origin, unplaced_literal, unplaced_signed, unplaced_class, unplaced_argument, unplaced_call, unplaced_right, unplaced_local}
 use Rattle.c_tree.specs.declared.named.Literal.{Literal}
 use Rattle.c_tree.specs.declared.named.SignedLiteral.{SignedLiteral}
 use Rattle.c_tree.specs.declared.type_name.TypeName.{TypeName}

@@ -1,7 +1,6 @@
 -- The tokens of marks, words, names and literals spell them.
 use Rattle.std.proofs.Common.{◌≡◌, ℕ, Bool, true, false, List, [], ◌∷◌, codes, Some, refl, ap}
 use Rattle.std.proofs.lemmas.Slice.Eq.{bytes_eq-Decides}
-use Rattle.std.specs.Str.{bytes_eq}
 use Rattle.hw_text.specs.declared.place.Place.{Place}
 use Rattle.hw_text.specs.Language.{One}
 use Rattle.c_tree.specs.Unplaced.{origin, unplaced_named, unplaced_literal}

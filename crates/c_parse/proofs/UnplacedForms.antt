@@ -1,5 +1,5 @@
 -- Expressions without their places, one equation for each form.
-use Rattle.std.proofs.Common.{◌≡◌, Bool, List, map, refl, ap, sym, ◌∙◌}
+use Rattle.std.proofs.Common.{◌≡◌, Bool, map, refl, ap, sym, ◌∙◌}
 use Rattle.hw_text.specs.declared.place.Place.{Place}
 use Rattle.c_tree.specs.declared.integer_type.IntegerType.{IntegerType}
 use Rattle.c_tree.specs.declared.named.Named.{Named}

@@ -1,5 +1,5 @@
 -- Names and words at the front of a text.
-use Rattle.std.proofs.Common.{◌≡◌, ℕ, ◌+◌, Bool, true, false, not, ◌&&◌, ◌||◌, ◌==◌, List, [], ◌∷◌, ◌++◌, length, take, drop, Option, Some, None, refl, sym, ap, ◌∙◌, subst, cond, add-one, arith}
+use Rattle.std.proofs.Common.{◌≡◌, ℕ, Bool, true, false, not, ◌==◌, List, [], ◌∷◌, ◌++◌, length, take, drop, Option, Some, None, refl, sym, ap, ◌∙◌, cond, add-one, arith}
 use Rattle.std.proofs.Math.Seq.{take-append_seam, drop-append_seam}
 use Rattle.std.proofs.lemmas.Bool.{and_parts, not-true, false≢true}
 use Rattle.std.proofs.lemmas.Bool.Decides.{nat_tests}
@@ -7,9 +7,7 @@ use Rattle.std.proofs.lemmas.Option.{same_Some}
 use Rattle.std.proofs.lemmas.Slice.Eq.{bytes_eq-Decides}
 use Rattle.std.specs.List.{list_all}
 use Rattle.std.specs.Str.{bytes_eq}
-use Rattle.hw_text.specs.Name.{is_letter, is_digit}
 use Rattle.hw_text.specs.Reading.{begins}
-use Rattle.hw_text.specs.Text.{is_white}
 use Rattle.c_tree.specs.Words.{is_word, begins_name, continues_name, is_spelled_as_name, is_identifier}
 use Rattle.c_tree.specs.declared.integer_type.IntegerType.TheVariants as integer
 use Rattle.c_parse.specs.Blanks.{skipped}

@@ -1,5 +1,5 @@
 -- Texts that are written piece by piece: which tokens the bytes of a piece are, whatever is written behind it.
-use Rattle.std.proofs.Common.{◌≡◌, ℕ, Bool, true, false, ◌==◌, List, [], ◌∷◌, ◌++◌, map, length, Some, None, refl, sym, ap, ◌∙◌, subst, append_assoc, arith}
+use Rattle.std.proofs.Common.{◌≡◌, ℕ, Bool, true, false, ◌==◌, List, [], ◌∷◌, ◌++◌, map, length, None, refl, sym, ap, ◌∙◌, subst, append_assoc, arith}
 use Rattle.std.proofs.lemmas.Bool.{eqb-true}
 use Rattle.std.proofs.lemmas.List.Elements.{All-nil, All-cons, All-head, All-tail}
 use Rattle.std.specs.List.{flat_map}
@@ -9,7 +9,7 @@ use Rattle.hw_text.specs.Tokens.{AreTokensOf}
 use Rattle.hw_text.specs.declared.place.Place.{Place}
 use Rattle.hw_text.specs.declared.placed.Placed.{Placed}
 use Rattle.c_parse.specs.declared.token.Token.{Token}
-use Rattle.c_parse.specs.Allowed.{IsAllowed, AreAllowed}
+use Rattle.c_parse.proofs.Allowed.{IsAllowed, AreAllowed}
 use Rattle.c_parse.specs.Blanks.{first_skipped, skipped}
 use Rattle.c_parse.specs.Lexed.{IsLexedAs}
 use Rattle.c_parse.specs.Marks.{mark_at}

@@ -1,5 +1,5 @@
 -- The canonical texts of lists, calls, and what declarations name have their canonical tokens.
-use Rattle.std.proofs.Common.{◌≡◌, ℕ, Bool, true, false, if◌then◌else◌, List, [], ◌∷◌, ◌++◌, map, codes, Option, Some, None, refl}
+use Rattle.std.proofs.Common.{ℕ, Bool, true, false, if◌then◌else◌, List, [], ◌∷◌, ◌++◌, map, codes, Option, Some, None, refl}
 use Rattle.std.specs.List.{flat_map}
 use Rattle.c_tree.specs.declared.named.Literal.{Literal}
 use Rattle.c_tree.specs.declared.named.Named.{Named}
@@ -21,7 +21,7 @@ use Rattle.c_parse.specs.declared.mark.Mark.TheVariants as mark
 use Rattle.c_parse.specs.declared.token.Token.{Token}
 use Rattle.c_parse.specs.declared.token.Token.TheVariants as token
 use Rattle.std.proofs.lemmas.List.Elements.{All-head}
-use Rattle.c_parse.specs.Allowed.{IsAllowed}
+use Rattle.c_parse.proofs.Allowed.{IsAllowed}
 use Rattle.c_parse.proofs.PrintedPieces.{name, literal, word, integer, closed, mark_space, minus, ampersand, name-no-operator, literal-no-operator}
 use Rattle.c_parse.proofs.WordFronts.{Ended}
 use Rattle.c_parse.proofs.Written.{Writes, Anything, both, next, blank-behind, nothing, space}

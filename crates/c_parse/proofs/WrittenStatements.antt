@@ -18,7 +18,6 @@ use Rattle.c_tree.specs.declared.statement.Otherwise.TheFolds.{fold-roll-Stateme
 use Rattle.c_tree.specs.declared.statement.Otherwise.TheOpen.{Statement-F, Branch-F, Otherwise-F}
 use Rattle.c_tree.specs.declared.statement.Otherwise.TheOpen as opened
 use Rattle.c_tree.specs.declared.statement.Otherwise.TheViews.{roll-Statement, roll-Branch, roll-Otherwise}
-use Rattle.c_tree.specs.Expressions.{lvalue_text, call_text, right_text}
 use Rattle.c_tree.specs.Statements.{Lines, deeper, all_lines, block_text, local_text, count_start_text, count_end_text, forever_text, else_text, otherwise_step, branch_step, statement_step, statement_text, branch_text, otherwise_text}
 use Rattle.c_parse.specs.PrintedStatements.{signed_tokens, zero_tokens, local_tokens, count_start_tokens, count_end_tokens, forever_tokens, block_tokens, else_tokens, otherwise_tokens_step, branch_tokens_step, statement_tokens_step, statement_tokens, branch_tokens, otherwise_tokens}
 use Rattle.c_parse.specs.declared.keyword.Keyword.TheVariants as keyword
@@ -29,7 +28,7 @@ use Rattle.c_parse.proofs.ExpressionInduction.{OfEach}
 use Rattle.c_parse.proofs.PrintedPieces.{name, literal, word, word_space, integer, closed, mark_space}
 use Rattle.c_parse.proofs.StatementInduction.{Cases, of_each_statement}
 use Rattle.c_parse.proofs.WordFronts.{Ended}
-use Rattle.c_parse.proofs.Written.{Writes, Anything, IsGap, both, next, blank-behind, blank-before, weaker, nothing, known-as, joined, space, newline}
+use Rattle.c_parse.proofs.Written.{Writes, Anything, IsGap, both, next, blank-behind, blank-before, nothing, known-as, joined, space, newline}
 use Rattle.c_parse.proofs.WrittenCalls.{call, right_side, type_name, signed}
 use Rattle.c_parse.proofs.WrittenExpressions.{lvalue}
 use Rattle.c_parse.proofs.WrittenOperands.{open_ended}

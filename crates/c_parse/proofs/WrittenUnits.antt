@@ -1,5 +1,5 @@
 -- The canonical text of a unit has its canonical tokens.
-use Rattle.std.proofs.Common.{◌≡◌, ℕ, Bool, true, false, if◌then◌else◌, List, [], ◌∷◌, ◌++◌, map, codes, Option, Some, None, refl, sym, subst, append_assoc, append-nil}
+use Rattle.std.proofs.Common.{◌≡◌, ℕ, Bool, true, false, if◌then◌else◌, List, [], ◌∷◌, ◌++◌, codes, Option, Some, None, refl, subst, append_assoc, append-nil}
 use Rattle.std.specs.List.{flat_map}
 use Rattle.c_tree.specs.declared.named.Named.{Named}
 use Rattle.c_tree.specs.declared.type_name.TypeName.{TypeName}
@@ -19,8 +19,7 @@ use Rattle.c_tree.specs.declared.item.Item.{Item}
 use Rattle.c_tree.specs.declared.item.Item.TheVariants as item
 use Rattle.c_tree.specs.declared.unit.Unit.{Unit as CUnit}
 use Rattle.c_tree.specs.Items.{name_text, enumeration_opening, enumeration_text, member_text, structure_opening, structure_text, static_text, initial_text, variable_text, external_text, pointer_text, parameter_text, parameters_text, result_text, signature_text, prototype_text, class_of, return_text, opening_text, body_text, function_text, item_text, unit_text}
-use Rattle.c_tree.specs.Printing.{with_commas}
-use Rattle.c_parse.specs.Allowed.{AreAllowed}
+use Rattle.c_parse.proofs.Allowed.{AreAllowed}
 use Rattle.c_parse.specs.Lexed.{IsLexedAs}
 use Rattle.c_parse.specs.PrintedExpressions.{name_tokens, separated}
 use Rattle.c_parse.specs.PrintedStatements.{statement_tokens}
@@ -31,7 +30,7 @@ use Rattle.c_parse.specs.declared.token.Token.{Token}
 use Rattle.c_parse.specs.declared.token.Token.TheVariants as token
 use Rattle.c_parse.proofs.PrintedPieces.{name, word, word_space, truth, closed, mark_space}
 use Rattle.c_parse.proofs.WordFronts.{Ended}
-use Rattle.c_parse.proofs.Written.{Has, Writes, Anything, IsGap, both, next, blank-behind, blank-before, weaker, nothing, nothing-left, known-as, members, has-tokens, no_gap, space, newline}
+use Rattle.c_parse.proofs.Written.{Has, Writes, Anything, IsGap, both, next, blank-behind, blank-before, nothing, nothing-left, known-as, members, has-tokens, space, newline}
 use Rattle.c_parse.proofs.WrittenCalls.{with-commas, right_side, type_name, signed, declared}
 use Rattle.c_parse.proofs.WrittenOperands.{open_ended}
 use Rattle.c_parse.proofs.WrittenStatements.{assign, zero, semicolon, four_spaces, lines}

@@ -1,4 +1,3 @@
-pub mod Allowed
 pub mod Blanks
 pub mod CallGrammar
 pub mod CountGrammar

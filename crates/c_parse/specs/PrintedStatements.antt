@@ -1,5 +1,5 @@
 -- The canonical tokens of statements, one case for each production of the grammar (docs/formats/c.md).
-use Rattle.std.specs.Prelude.{ℕ, Bool, if◌then◌else◌, List, [], ◌∷◌, ◌++◌, codes, Option, Some, None}
+use Rattle.std.specs.Prelude.{if◌then◌else◌, List, [], ◌∷◌, ◌++◌, codes, Option, Some, None}
 use Rattle.std.specs.List.{flat_map}
 use Rattle.c_tree.specs.declared.integer_type.IntegerType.{IntegerType}
 use Rattle.c_tree.specs.declared.named.Named.{Named}

@@ -1,5 +1,5 @@
 -- The units that the grammar of users has texts of: those without what only the full grammar has (docs/formats/c.md).
-use Rattle.std.specs.Prelude.{Bool, true, false, ◌&&◌, not, List, Option, Some, None}
+use Rattle.std.specs.Prelude.{Bool, true, false, ◌&&◌, not, Option, Some, None}
 use Rattle.std.specs.List.{list_all}
 use Rattle.c_tree.specs.declared.expression.Base.{Base}
 use Rattle.c_tree.specs.declared.expression.Base.TheVariants as base
