@@ -6,11 +6,16 @@ pub mod Flaws
 pub mod Forms
 pub mod Keywords
 pub mod Levels
+pub mod Lexed
 pub mod Marks
 pub mod Nesting
 pub mod Operators
 pub mod PartGrammar
 pub mod PlainGrammar
+pub mod Printed
+pub mod PrintedExpressions
+pub mod PrintedStatements
+pub mod PrintedUnits
 pub mod RangeEnds
 pub mod Ranges
 pub mod Refusals
@@ -18,5 +23,6 @@ pub mod StatementGrammar
 pub mod Tokens
 pub mod TypedefGrammar
 pub mod UnitGrammar
+pub mod UserUnits
 pub mod Values
 pub mod WholeUnits

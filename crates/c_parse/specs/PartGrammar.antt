@@ -1,5 +1,5 @@
 -- Pieces of the grammar of expressions that are read by themselves (docs/formats/c.md).
-use Rattle.std.specs.Prelude.{Bool, List, [], ◌∷◌, Option, Some, None}
+use Rattle.std.specs.Prelude.{Bool, ◌∷◌, Option, Some, None}
 use Rattle.hw_text.specs.declared.place.Place.{Place}
 use Rattle.hw_text.specs.Language.{One, ◌⋅◌, Made, ◌∣◌}
 use Rattle.c_tree.specs.declared.integer_type.IntegerType.{IntegerType}

@@ -3,6 +3,10 @@ pub mod Items
 pub mod Numerals
 pub mod Operators
 pub mod Printing
+pub mod Spelled
+pub mod SpelledUnits
 pub mod Statements
 pub mod Types
+pub mod Unplaced
+pub mod UnplacedUnits
 pub mod Words

@@ -41,11 +41,15 @@ local_text (local.ZeroArray length) = codes "[" ++ length.numeral ++ codes "] = 
 local_text local.Zero = codes " = {0}"
 local_text (local.Given value) = codes " = " ++ right_text value
 
--- the head of a loop over numbers
+-- the head of a loop over numbers: where it begins, and where it ends
+abbrev pub count_start_text : IntegerType → Named → SignedLiteral → List ℕ
+count_start_text class x from = codes "for (" ++ integer_text class ++ codes " " ++ x.name ++ codes " = " ++ signed_text from ++ codes "; "
+
+abbrev pub count_end_text : Named → SignedLiteral → List ℕ
+count_end_text x below = x.name ++ codes " < " ++ signed_text below ++ codes "; " ++ x.name ++ codes "++)"
+
 abbrev pub count_text : IntegerType → Named → SignedLiteral → SignedLiteral → List ℕ
-count_text class x from below =
-    codes "for (" ++ integer_text class ++ codes " " ++ x.name ++ codes " = " ++ signed_text from ++ codes "; " ++
-    x.name ++ codes " < " ++ signed_text below ++ codes "; " ++ x.name ++ codes "++)"
+count_text class x from below = count_start_text class x from ++ count_end_text x below
 
 -- the head of a loop that ends by `break` alone
 unfoldable pub forever_text : List ℕ

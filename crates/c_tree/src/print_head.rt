@@ -1,7 +1,8 @@
 //! Printing what statements have beside blocks.
 
-ghost use Rattle.std.specs.Prelude.{◌≡◌, ◌++◌, IfOk, OnOk};
-ghost use Rattle.c_tree.specs.Statements.{deeper, local_text, count_text, forever_text};
+ghost use Rattle.std.specs.Prelude.{◌≡◌, ◌++◌, ◌&&◌, IfOk, OnOk, true};
+ghost use Rattle.c_tree.specs.Spelled.{is_spelled_named, is_spelled_signed, is_spelled_count, is_spelled_local};
+ghost use Rattle.c_tree.specs.Statements.{deeper, local_text, count_start_text, count_end_text, count_text, forever_text};
 
 use crate::integer_type::IntegerType;
 use crate::named::{Named, SignedLiteral};
@@ -27,7 +28,21 @@ pub fn print_count(
     from: &SignedLiteral,
     below: &SignedLiteral,
 ) -> Result<(), NoMemory>
-    ensures { OnOk result (out.new ≡ out.old ++ count_text class name.now from.now below.now) }
+    ensures text { OnOk result (out.new ≡ out.old ++ count_text class name.now from.now below.now) }
+    ensures spelled { OnOk result (is_spelled_count name.now from.now below.now ≡ true) }
+{
+    print_count_start(out, class, name, from)?;
+    print_count_end(out, name, below)
+}
+
+fn print_count_start(
+    out: &mut TextBuf,
+    class: IntegerType,
+    name: &Named,
+    from: &SignedLiteral,
+) -> Result<(), NoMemory>
+    ensures text { OnOk result (out.new ≡ out.old ++ count_start_text class name.now from.now) }
+    ensures spelled { OnOk result ((is_spelled_named name.now && is_spelled_signed from.now) ≡ true) }
 {
     out.word(b"for (")?;
     out.word(class.spelling().as_bytes())?;
@@ -35,7 +50,13 @@ pub fn print_count(
     out.word(name.name.rows())?;
     out.word(b" = ")?;
     from.print(out)?;
-    out.word(b"; ")?;
+    out.word(b"; ")
+}
+
+fn print_count_end(out: &mut TextBuf, name: &Named, below: &SignedLiteral) -> Result<(), NoMemory>
+    ensures text { OnOk result (out.new ≡ out.old ++ count_end_text name.now below.now) }
+    ensures spelled { OnOk result (is_spelled_signed below.now ≡ true) }
+{
     out.word(name.name.rows())?;
     out.word(b" < ")?;
     below.print(out)?;
@@ -53,7 +74,8 @@ pub fn print_forever(out: &mut TextBuf) -> Result<(), NoMemory>
 
 impl LocalValue {
     pub fn print(&self, out: &mut TextBuf) -> Result<(), NoMemory>
-        ensures { OnOk result (out.new ≡ out.old ++ local_text self.now) }
+        ensures text { OnOk result (out.new ≡ out.old ++ local_text self.now) }
+        ensures spelled { OnOk result (is_spelled_local self.now ≡ true) }
     {
         match self {
             LocalValue::ZeroArray(length) => {

@@ -1,6 +1,7 @@
 //! Printing what stands outside functions.
 
-ghost use Rattle.std.specs.Prelude.{◌≡◌, ◌++◌, OnOk};
+ghost use Rattle.std.specs.Prelude.{◌≡◌, ◌++◌, OnOk, true};
+ghost use Rattle.c_tree.specs.SpelledUnits.{is_spelled_external, is_spelled_initial, is_spelled_item, is_spelled_pointer, is_spelled_variable};
 ghost use Rattle.c_tree.specs.Items.{initial_text, variable_text, external_text, pointer_text, item_text};
 
 use crate::item::{External, InitialValue, Item, Pointer, Variable};
@@ -10,7 +11,8 @@ use std::alloc::Global;
 
 impl Item {
     pub fn print(&self, alloc: Global, out: &mut TextBuf) -> Result<(), NoMemory>
-        ensures { OnOk result (out.new ≡ out.old ++ item_text self.now) }
+        ensures text { OnOk result (out.new ≡ out.old ++ item_text self.now) }
+        ensures spelled { OnOk result (is_spelled_item self.now ≡ true) }
     {
         match self {
             Item::Enumeration(enumeration) => enumeration.print(out),
@@ -26,7 +28,8 @@ impl Item {
 
 impl Variable {
     fn print(&self, out: &mut TextBuf) -> Result<(), NoMemory>
-        ensures { OnOk result (out.new ≡ out.old ++ variable_text self.now) }
+        ensures text { OnOk result (out.new ≡ out.old ++ variable_text self.now) }
+        ensures spelled { OnOk result (is_spelled_variable self.now ≡ true) }
     {
         print_static(out, self.is_static)?;
         print_declared(out, &self.class, &self.name, &self.length)?;
@@ -36,7 +39,8 @@ impl Variable {
 }
 
 fn print_initial(out: &mut TextBuf, value: &Option<InitialValue>) -> Result<(), NoMemory>
-    ensures { OnOk result (out.new ≡ out.old ++ initial_text value.now) }
+    ensures text { OnOk result (out.new ≡ out.old ++ initial_text value.now) }
+    ensures spelled { OnOk result (is_spelled_initial value.now ≡ true) }
 {
     let Some(value) = value else {
         return Ok(());
@@ -52,7 +56,8 @@ fn print_initial(out: &mut TextBuf, value: &Option<InitialValue>) -> Result<(), 
 
 impl External {
     fn print(&self, out: &mut TextBuf) -> Result<(), NoMemory>
-        ensures { OnOk result (out.new ≡ out.old ++ external_text self.now) }
+        ensures text { OnOk result (out.new ≡ out.old ++ external_text self.now) }
+        ensures spelled { OnOk result (is_spelled_external self.now ≡ true) }
     {
         out.word(b"extern ")?;
         print_declared(out, &self.class, &self.name, &self.length)?;
@@ -62,7 +67,8 @@ impl External {
 
 impl Pointer {
     fn print(&self, out: &mut TextBuf) -> Result<(), NoMemory>
-        ensures { OnOk result (out.new ≡ out.old ++ pointer_text self.now) }
+        ensures text { OnOk result (out.new ≡ out.old ++ pointer_text self.now) }
+        ensures spelled { OnOk result (is_spelled_pointer self.now ≡ true) }
     {
         out.word(b"volatile ")?;
         out.word(self.class.name.rows())?;

@@ -1,0 +1,19 @@
+-- A text that is read as the unit that it was printed from (this project's own; docs/formats/c.md).
+use Rattle.std.specs.Prelude.{◌≡◌, ℕ, Bool, List, [], map}
+use Rattle.hw_text.specs.declared.place.Place.{Place}
+use Rattle.c_tree.specs.UnplacedUnits.{SameUnit}
+use Rattle.c_tree.specs.declared.unit.Unit.{Unit as CUnit}
+use Rattle.c_parse.specs.PrintedUnits.{unit_tokens}
+use Rattle.c_parse.specs.Tokens.{HasTokens}
+use Rattle.c_parse.specs.UnitGrammar.{SpellsUnit}
+use Rattle.c_parse.specs.Values.{Tokens}
+
+-- the canonical tokens of the unit, which the text has up to its end, are in this grammar a text of a unit that is the same but for places
+pub record IsPrintedText (full : Bool) (u : CUnit) (bytes : List ℕ) : Type 0 where
+  pub tokens : Tokens
+  pub end : Place
+  pub read : CUnit
+  pub canonical : map (λ t. t.token) tokens ≡ unit_tokens u
+  pub lexed : HasTokens bytes tokens end []
+  pub spelled : SpellsUnit full end read tokens
+  pub same : SameUnit u read
