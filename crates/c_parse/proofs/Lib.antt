@@ -46,6 +46,7 @@ pub mod PrintedPieces
 pub mod RangeLaws
 pub mod RangeReads
 pub mod RangeTexts
+pub mod ReadBack
 pub mod Respelled
 pub mod RespelledCalls
 pub mod RespelledDeclarations

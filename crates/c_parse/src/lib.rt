@@ -57,7 +57,7 @@ pub use mark::Mark;
 pub use names::stands_name;
 pub use parameter_list::parameters;
 pub use plain::plain as plain_statement;
-pub use printed::{printed_has_tokens, printed_is_text, printed_tokens_are_a_unit};
+pub use printed::{printed_has_tokens, printed_is_text};
 pub use reader::{parse, parse_full};
 pub use terminals::{IntegerAt, LiteralAt, NameAt, TruthAt, UnaryAt, ZeroAt};
 pub use token::Token;

@@ -1,8 +1,14 @@
 //! Whole texts: from bytes to the unit that they are a text of, or to the first failure.
 
-ghost use Rattle.std.specs.Prelude.{◌≡◌, ◌<◌, ℕ, Some, None, IfOk};
+ghost use Rattle.std.specs.Prelude.{◌≡◌, ◌<◌, ℕ, true, false, Some, None, IfOk};
 ghost use Rattle.hw_text.specs.WholeTexts.{IsAccepted, IsRejected, IfRefused, IsSound, FailsAt};
+ghost use Rattle.c_tree.specs.declared.unit.Unit.{Unit as CUnit};
+ghost use Rattle.c_tree.specs.Items.{unit_text};
+ghost use Rattle.c_tree.specs.SpelledUnits.{is_spelled_unit};
+ghost use Rattle.c_tree.specs.UnplacedUnits.{SameUnit};
 ghost use Rattle.c_parse.specs.Flaws.{flaw_at};
+ghost use Rattle.c_parse.specs.Printed.{IsWithinLimits};
+ghost use Rattle.c_parse.specs.UserUnits.{is_user_unit};
 ghost use Rattle.c_parse.specs.WholeUnits.{told_before, unit_rules, full_rules, user_rules};
 
 use crate::flaw::Flawed;
@@ -16,19 +22,23 @@ use hw_text::{Fault, Lexed, NoMemory, Refusal, Whole};
 use std::alloc::Global;
 
 /// The unit of the full grammar that a text is a text of, or why it is none. Texts may be of any
-/// size, and brackets may stand at any depth.
+/// size, and brackets may stand at any depth. What is printed of a unit is read as the same unit, but
+/// for places.
 pub fn parse_full(alloc: Global, bytes: &[u8]) -> Result<Unit, Fault>
     ensures accepted { IfOk result (λ unit. IsAccepted full_rules bytes.now unit) }
     ensures rejected { IfRefused result (λ refusal. IsRejected full_rules bytes.now refusal) }
+    ensures printed { (u : CUnit) → bytes.now ≡ unit_text u → is_spelled_unit u ≡ true → IsWithinLimits true u → IfOk result (SameUnit u) × IfRefused result (λ refusal. ⊥) }
 {
     read_text(alloc, bytes, true)
 }
 
 /// The unit of the grammar of users that a text is a text of, or why it is none: also where it has
-/// more of something than a text of users may have.
+/// more of something than a text of users may have. What is printed of a user's unit within these
+/// limits is read as the same unit, but for places.
 pub fn parse(alloc: Global, bytes: &[u8]) -> Result<Unit, Fault>
     ensures accepted { IfOk result (λ unit. IsAccepted user_rules bytes.now unit) }
     ensures rejected { IfRefused result (λ refusal. IsRejected user_rules bytes.now refusal) }
+    ensures printed { (u : CUnit) → bytes.now ≡ unit_text u → is_spelled_unit u ≡ true → is_user_unit u ≡ true → IsWithinLimits false u → IfOk result (SameUnit u) × IfRefused result (λ refusal. ⊥) }
 {
     if bytes.len() > LARGEST {
         return Err(Fault::Refused(too_long(alloc, bytes.len())?));

@@ -1,5 +1,5 @@
-use Rattle.c_parse.proofs.PrintedLaw.{printed}
+use Rattle.c_parse.proofs.ReadBack.{read_back}
 use Rattle.c_parse.proofs.printed.printed_is_text.Goals as goal
 
 pub returns : goal.returns
-returns c = λ full u spelled user. printed full u spelled user
+returns c = λ full u spelled user limits. read_back full u spelled user limits
