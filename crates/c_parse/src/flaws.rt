@@ -46,7 +46,6 @@ fn flaw_at(tokens: &[Placed<Token>], index: usize, depth: usize, full: bool) -> 
     }
 }
 
-/// Whether it is a bracket inside as many others as there may be.
 fn is_too_deep(tokens: &[Placed<Token>], index: usize, depth: usize) -> bool
     requires { depth ≡ open_behind (take index tokens.now) }
     ensures { result ≡ is_too_deep tokens.now index }
@@ -108,7 +107,6 @@ pub fn flawed(alloc: Global, tokens: &[Placed<Token>], found: Flawed) -> Result<
     }
 }
 
-/// Where the token at the index stands.
 fn place_at(tokens: &[Placed<Token>], index: usize) -> Place
     ensures { result ≡ place_at tokens.now index }
 {
