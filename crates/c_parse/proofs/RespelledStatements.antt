@@ -90,14 +90,14 @@ module _ (full : Bool) where
 
   choice-read : (first : Branch) (others : List Branch) (o : Otherwise) → (BranchRead full) first → OfEach (BranchRead full) others → (OtherwiseRead full) o → (StatementRead full) (roll-Statement (opened.If first others o))
   choice-read first others o a b c = (statement-read full) (opened.If first others o) (λ allowed.
-    let both = allows-both full (is_user_branch first) (list_all (λ v. v) (map is_user_branch others) && is_user_otherwise o) allowed in
-    let rest = allows-both full (list_all (λ v. v) (map is_user_branch others)) (is_user_otherwise o) both.1 in
-    let each = allows-each full is_user_branch others (subst (λ (v : Bool). Allows full v) (all-map is_user_branch others) rest.0) in
-    respelled-as (sym (append_assoc (branch_tokens first) (flat_map else_tokens (map branch_tokens others)) (otherwise_tokens o))) refl
-    (turned (λ (k : ChoiceParts). statement.If k.0 k.1.0 k.1.1)
-    (λ k ts text. grammar.choice full k.0 k.1.0 k.1.1 text.0 text.4.0 text.4.1 (statement.If k.0 k.1.0 k.1.1) ts refl (text.2 ∙ ap (λ (l : Tokens). text.0 ++ l) text.4.2) text.3 text.4.3 text.4.4)
-    (λ k same. unplaced-If k.0 k.1.0 k.1.1 ∙ ap (λ (q : ChoiceParts). statement.If q.0 q.1.0 q.1.1) same)
-    (after (a.read both.0) (after (elses others b each) (c.read rest.1)))))
+      let both = allows-both full (is_user_branch first) (list_all (λ v. v) (map is_user_branch others) && is_user_otherwise o) allowed in
+      let rest = allows-both full (list_all (λ v. v) (map is_user_branch others)) (is_user_otherwise o) both.1 in
+      let each = allows-each full is_user_branch others (subst (λ (v : Bool). Allows full v) (all-map is_user_branch others) rest.0) in
+      respelled-as (sym (append_assoc (branch_tokens first) (flat_map else_tokens (map branch_tokens others)) (otherwise_tokens o))) refl
+      (turned (λ (k : ChoiceParts). statement.If k.0 k.1.0 k.1.1)
+      (λ k ts text. grammar.choice full k.0 k.1.0 k.1.1 text.0 text.4.0 text.4.1 (statement.If k.0 k.1.0 k.1.1) ts refl (text.2 ∙ ap (λ (l : Tokens). text.0 ++ l) text.4.2) text.3 text.4.3 text.4.4)
+      (λ k same. unplaced-If k.0 k.1.0 k.1.1 ∙ ap (λ (q : ChoiceParts). statement.If q.0 q.1.0 q.1.1) same)
+      (after (a.read both.0) (after (elses others b each) (c.read rest.1)))))
 
   abbrev LoopParts : Type 0
   LoopParts = Place × (Place × Statement)
@@ -115,20 +115,20 @@ module _ (full : Bool) where
 
   count-read : (class : IntegerType) (x : Named) (from : SignedLiteral) (at : Place) (below : SignedLiteral) (body : List Statement) → OfEach (StatementRead full) body → (StatementRead full) (roll-Statement (opened.Count class x from at below body))
   count-read class x from at below body each = (statement-read full) (opened.Count class x from at below body) (λ allowed.
-    a_loop (turned count_of (λ k ts text. grammar.count full k.0 k.1 text.0 text.1 (count_of k) ts refl text.2 text.3 text.4)
-    (λ k same. unplaced-Count k.0.0.class k.0.0.name k.0.0.from k.0.1.place k.0.1.below k.1 ∙ ap (λ (q : CountParts). count_of q) same)
-    (after (a_count class x from below) (block body each allowed))))
+      a_loop (turned count_of (λ k ts text. grammar.count full k.0 k.1 text.0 text.1 (count_of k) ts refl text.2 text.3 text.4)
+      (λ k same. unplaced-Count k.0.0.class k.0.0.name k.0.0.from k.0.1.place k.0.1.below k.1 ∙ ap (λ (q : CountParts). count_of q) same)
+      (after (a_count class x from below) (block body each allowed))))
 
   abbrev ForeverParts : Type 0
   ForeverParts = ⊤ × List Statement
 
   forever-read : (body : List Statement) → OfEach (StatementRead full) body → (StatementRead full) (roll-Statement (opened.Forever body))
   forever-read body each = (statement-read full) (opened.Forever body) (λ allowed.
-    let is_full = allows-full full allowed in
-    a_loop (turned (λ (k : ForeverParts). statement.Forever k.1)
-    (λ k ts text. grammar.forever full k.0 k.1 text.0 text.1 (statement.Forever k.1) ts is_full refl text.2 text.3 text.4)
-    (λ k same. unplaced-Forever k.1 ∙ ap (λ (q : ForeverParts). statement.Forever q.1) same)
-    (after forever_head (block body each (all-full is_full (list_all (λ b. b) (map is_user_statement body)))))))
+      let is_full = allows-full full allowed in
+      a_loop (turned (λ (k : ForeverParts). statement.Forever k.1)
+      (λ k ts text. grammar.forever full k.0 k.1 text.0 text.1 (statement.Forever k.1) ts is_full refl text.2 text.3 text.4)
+      (λ k same. unplaced-Forever k.1 ∙ ap (λ (q : ForeverParts). statement.Forever q.1) same)
+      (after forever_head (block body each (all-full is_full (list_all (λ b. b) (map is_user_statement body)))))))
     where
       all-full : full ≡ true → (b : Bool) → Allows full b
       all-full is b = subst (λ (f : Bool). Allows f b) (sym is) refl
@@ -141,11 +141,11 @@ module _ (full : Bool) where
 
   a_branch : (r : RightSide) (body : List Statement) → OfEach (StatementRead full) body → (BranchRead full) (roll-Branch (record { condition = r; body = body }))
   a_branch r body each = (branch-read full) (record { condition = r; body = body }) (λ allowed.
-    let both = allows-both full (is_user_right r) (list_all (λ v. v) (map is_user_statement body)) allowed in
-    turned (λ (k : BranchParts). record { condition = k.1.0; body = k.1.1 })
-    (λ k ts text. grammar.branch full k.0 k.1.0 k.1.1 text.0 text.4.0 text.4.1 (record { condition = k.1.0; body = k.1.1 }) ts refl (text.2 ∙ ap (λ (l : Tokens). text.0 ++ l) text.4.2) text.3 text.4.3 text.4.4)
-    (λ k same. unplaced-Branch (record { condition = k.1.0; body = k.1.1 }) ∙ ap (λ (q : BranchParts). record { condition = q.1.0; body = q.1.1 }) same)
-    (after (word keyword.If) (after (condition r both.0) (block body each both.1))))
+      let both = allows-both full (is_user_right r) (list_all (λ v. v) (map is_user_statement body)) allowed in
+      turned (λ (k : BranchParts). record { condition = k.1.0; body = k.1.1 })
+      (λ k ts text. grammar.branch full k.0 k.1.0 k.1.1 text.0 text.4.0 text.4.1 (record { condition = k.1.0; body = k.1.1 }) ts refl (text.2 ∙ ap (λ (l : Tokens). text.0 ++ l) text.4.2) text.3 text.4.3 text.4.4)
+      (λ k same. unplaced-Branch (record { condition = k.1.0; body = k.1.1 }) ∙ ap (λ (q : BranchParts). record { condition = q.1.0; body = q.1.1 }) same)
+      (after (word keyword.If) (after (condition r both.0) (block body each both.1))))
 
   nothing-read : (OtherwiseRead full) (roll-Otherwise opened.Nothing)
   nothing-read = (otherwise-read full) opened.Nothing (λ allowed. record { found = λ ts e. (otherwise.Nothing, grammar.no_else full otherwise.Nothing ts refl (no-tokens ts e), unplaced-Nothing) })
@@ -155,10 +155,10 @@ module _ (full : Bool) where
 
   block-read : (body : List Statement) → OfEach (StatementRead full) body → (OtherwiseRead full) (roll-Otherwise (opened.Block body))
   block-read body each = (otherwise-read full) (opened.Block body) (λ allowed.
-    turned (λ (k : ElseParts). otherwise.Block k.1)
-    (λ k ts text. grammar.an_else full k.0 k.1 text.0 text.1 (otherwise.Block k.1) ts refl text.2 text.3 text.4)
-    (λ k same. unplaced-Block k.1 ∙ ap (λ (q : ElseParts). otherwise.Block q.1) same)
-    (after (word keyword.Else) (block body each allowed)))
+      turned (λ (k : ElseParts). otherwise.Block k.1)
+      (λ k ts text. grammar.an_else full k.0 k.1 text.0 text.1 (otherwise.Block k.1) ts refl text.2 text.3 text.4)
+      (λ k same. unplaced-Block k.1 ∙ ap (λ (q : ElseParts). otherwise.Block q.1) same)
+      (after (word keyword.Else) (block body each allowed)))
 
   cases : Cases (OtherwiseRead full) (StatementRead full) (BranchRead full)
   cases = record {
