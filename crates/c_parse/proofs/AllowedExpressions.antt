@@ -6,16 +6,11 @@ use Rattle.std.specs.List.{flat_map, list_all}
 use Rattle.hw_text.specs.declared.place.Place.{Place}
 use Rattle.c_tree.specs.Expressions.{position_behind}
 use Rattle.c_tree.specs.Numerals.{is_numeral}
-use Rattle.c_tree.specs.Spelled.{is_spelled_named, is_spelled_base, spelled_step, spelled_part_step, spelled_lvalue_step, is_spelled_expression, is_spelled_part, is_spelled_lvalue, is_spelled_argument, is_spelled_call, is_spelled_right}
+use Rattle.c_tree.specs.Spelled.{is_spelled_named, is_spelled_base, spelled_step, spelled_part_step, spelled_lvalue_step, is_spelled_expression, is_spelled_part, is_spelled_lvalue}
 use Rattle.c_tree.specs.Words.{is_identifier}
 use Rattle.c_tree.specs.declared.operator.BinaryOperator.{BinaryOperator}
 use Rattle.c_tree.specs.declared.print_expression.Position.{Position}
 use Rattle.c_tree.specs.declared.print_expression.Position.TheVariants.{Whole, Operand, BehindMinus}
-use Rattle.c_tree.specs.declared.expression.Argument.{Argument}
-use Rattle.c_tree.specs.declared.expression.Argument.TheVariants as argument
-use Rattle.c_tree.specs.declared.expression.Call.{Call}
-use Rattle.c_tree.specs.declared.expression.RightSide.{RightSide}
-use Rattle.c_tree.specs.declared.expression.RightSide.TheVariants as right
 use Rattle.c_tree.specs.declared.expression.Base.{Base}
 use Rattle.c_tree.specs.declared.expression.Base.TheVariants as base
 use Rattle.c_tree.specs.declared.expression.Selector.{Selector}
@@ -27,7 +22,7 @@ use Rattle.c_tree.specs.declared.expression.Expression.TheOpen as opened
 use Rattle.c_tree.specs.declared.expression.Expression.TheViews.{roll-Expression, roll-Selector, roll-Lvalue}
 use Rattle.c_parse.proofs.Allowed.{IsAllowed, AreAllowed}
 use Rattle.c_parse.specs.ExpressionGrammar.{Layer}
-use Rattle.c_parse.specs.PrintedExpressions.{Written, unary_mark, binary_mark, grouped_tokens, base_tokens, expression_tokens_step, selector_tokens_step, lvalue_tokens_step, expression_tokens, selector_tokens, lvalue_tokens, behind_comma_tokens, separated, argument_tokens, call_tokens, right_tokens}
+use Rattle.c_parse.specs.PrintedExpressions.{Written, unary_mark, binary_mark, grouped_tokens, base_tokens, expression_tokens_step, selector_tokens_step, lvalue_tokens_step, expression_tokens, selector_tokens, lvalue_tokens, behind_comma_tokens, separated}
 use Rattle.c_parse.specs.declared.keyword.Keyword.{Keyword}
 use Rattle.c_parse.specs.declared.keyword.Keyword.TheVariants as keyword
 use Rattle.c_parse.specs.declared.mark.Mark.{Mark}
@@ -95,15 +90,15 @@ pub record LvalueAllowed (l : Lvalue) : Type 0 where
 form : (z : Layer) → (spelled_step (map-Expression Expression Selector Lvalue Bool Bool Bool is_spelled_expression is_spelled_part is_spelled_lvalue z) ≡ true → (p : Position) → Allowed (expression_tokens_step (map-Expression Expression Selector Lvalue Written (List Token) (List Token) expression_tokens selector_tokens lvalue_tokens z) p)) → ExpressionAllowed (roll-Expression z)
 form z make = record {
   allowed = λ h p.
-  subst (λ (w : Written). Allowed (w p)) (sym (fold-roll-Expression Written (List Token) (List Token) expression_tokens_step selector_tokens_step lvalue_tokens_step z))
-  (make (sym (fold-roll-Expression Bool Bool Bool spelled_step spelled_part_step spelled_lvalue_step z) ∙ h) p);
+      subst (λ (w : Written). Allowed (w p)) (sym (fold-roll-Expression Written (List Token) (List Token) expression_tokens_step selector_tokens_step lvalue_tokens_step z))
+      (make (sym (fold-roll-Expression Bool Bool Bool spelled_step spelled_part_step spelled_lvalue_step z) ∙ h) p);
 }
 
 part_form : (z : Selector-F Expression Selector Lvalue) → (spelled_part_step (map-Selector Expression Selector Lvalue Bool Bool Bool is_spelled_expression is_spelled_part is_spelled_lvalue z) ≡ true → Allowed (selector_tokens_step (map-Selector Expression Selector Lvalue Written (List Token) (List Token) expression_tokens selector_tokens lvalue_tokens z))) → PartAllowed (roll-Selector z)
 part_form z make = record {
   allowed = λ h.
-  subst Allowed (sym (fold-roll-Selector Written (List Token) (List Token) expression_tokens_step selector_tokens_step lvalue_tokens_step z))
-  (make (sym (fold-roll-Selector Bool Bool Bool spelled_step spelled_part_step spelled_lvalue_step z) ∙ h));
+      subst Allowed (sym (fold-roll-Selector Written (List Token) (List Token) expression_tokens_step selector_tokens_step lvalue_tokens_step z))
+      (make (sym (fold-roll-Selector Bool Bool Bool spelled_step spelled_part_step spelled_lvalue_step z) ∙ h));
 }
 
 grouped : (p : Position) {ts : List Token} → Allowed ts → Allowed (grouped_tokens p ts)
@@ -113,8 +108,8 @@ grouped BehindMinus a = sign mark.OpenParenthesis (and-then a (sign mark.ClosePa
 
 binary_form : (start : Place) (o : BinaryOperator) (at : Place) (l r : Expression) → ExpressionAllowed l → ExpressionAllowed r → ExpressionAllowed (roll-Expression (opened.Binary start o at l r))
 binary_form start o at l r a b = form (opened.Binary start o at l r) (λ h p.
-  let parts = and_parts (is_spelled_expression l) (is_spelled_expression r) h in
-  grouped p (and-then (and-then (a.allowed parts.0 Operand) (sign (binary_mark o) none)) (b.allowed parts.1 Operand)))
+    let parts = and_parts (is_spelled_expression l) (is_spelled_expression r) h in
+    grouped p (and-then (and-then (a.allowed parts.0 Operand) (sign (binary_mark o) none)) (b.allowed parts.1 Operand)))
 
 based : (b : Base) → is_spelled_base b ≡ true → Allowed (base_tokens b)
 based (base.Variable x) h = named x.name h none
@@ -130,10 +125,10 @@ each-part (p ∷ ps) all = (λ h. all.0.allowed h, each-part ps all.1)
 lvalue_form : (b : Base) (ps : List Selector) → OfEach PartAllowed ps → LvalueAllowed (roll-Lvalue (record { base = b; parts = ps }))
 lvalue_form b ps each = record {
   allowed = λ h.
-  let z : Lvalue-F Expression Selector Lvalue = record { base = b; parts = ps } in
-  let parts = and_parts (is_spelled_base b) (list_all (λ v. v) (map is_spelled_part ps)) (sym (fold-roll-Lvalue Bool Bool Bool spelled_step spelled_part_step spelled_lvalue_step z) ∙ h) in
-  subst Allowed (sym (fold-roll-Lvalue Written (List Token) (List Token) expression_tokens_step selector_tokens_step lvalue_tokens_step z))
-  (and-then (based b parts.0) (flat-each is_spelled_part selector_tokens (λ ts. ts) (λ ts a. a) ps (each-part ps each) parts.1));
+      let z : Lvalue-F Expression Selector Lvalue = record { base = b; parts = ps } in
+      let parts = and_parts (is_spelled_base b) (list_all (λ v. v) (map is_spelled_part ps)) (sym (fold-roll-Lvalue Bool Bool Bool spelled_step spelled_part_step spelled_lvalue_step z) ∙ h) in
+      subst Allowed (sym (fold-roll-Lvalue Written (List Token) (List Token) expression_tokens_step selector_tokens_step lvalue_tokens_step z))
+      (and-then (based b parts.0) (flat-each is_spelled_part selector_tokens (λ ts. ts) (λ ts a. a) ps (each-part ps each) parts.1));
 }
 
 cases : Cases ExpressionAllowed PartAllowed LvalueAllowed
@@ -154,16 +149,3 @@ expression x h = (of_each_expression ExpressionAllowed PartAllowed LvalueAllowed
 
 pub lvalue : (l : Lvalue) → is_spelled_lvalue l ≡ true → Allowed (lvalue_tokens l)
 lvalue l h = (of_each_lvalue ExpressionAllowed PartAllowed LvalueAllowed cases l).allowed h
-
-handed : (a : Argument) → is_spelled_argument a ≡ true → Allowed (argument_tokens a)
-handed (argument.Address at x) h = sign mark.Ampersand (named x.name h none)
-handed (argument.Value x) h = expression x h
-
-pub call : (c : Call) → is_spelled_call c ≡ true → Allowed (call_tokens c)
-call c h =
-    let parts = and_parts (is_spelled_named c.name) (list_all is_spelled_argument c.arguments) h in
-    and-then (named c.name.name parts.0 (sign mark.OpenParenthesis (parted is_spelled_argument argument_tokens handed c.arguments parts.1))) (sign mark.CloseParenthesis none)
-
-pub right_side : (r : RightSide) → is_spelled_right r ≡ true → Allowed (right_tokens r)
-right_side (right.Call c) h = call c h
-right_side (right.Value x) h = expression x h

@@ -26,7 +26,8 @@ use Rattle.c_parse.specs.declared.keyword.Keyword.TheVariants as keyword
 use Rattle.c_parse.specs.declared.mark.Mark.TheVariants as mark
 use Rattle.c_parse.specs.declared.token.Token.{Token}
 use Rattle.c_parse.specs.declared.token.Token.TheVariants as token
-use Rattle.c_parse.proofs.AllowedExpressions.{Allowed, none, and-then, sign, word, named, literal, flat-each, lvalue, call, right_side}
+use Rattle.c_parse.proofs.AllowedExpressions.{Allowed, none, and-then, sign, word, named, literal, flat-each, lvalue}
+use Rattle.c_parse.proofs.AllowedCalls.{call, right_side}
 use Rattle.c_parse.proofs.ExpressionInduction.{OfEach}
 use Rattle.c_parse.proofs.StatementInduction.{Cases, of_each_statement}
 
@@ -65,22 +66,22 @@ pub record OtherwiseAllowed (o : Otherwise) : Type 0 where
 form : (z : Statement-F Otherwise Statement Branch) → (spelled_statement_step (map-Statement Otherwise Statement Branch Bool Bool Bool is_spelled_otherwise is_spelled_statement is_spelled_branch z) ≡ true → Allowed (statement_tokens_step (map-Statement Otherwise Statement Branch (List Token) (List Token) (List Token) otherwise_tokens statement_tokens branch_tokens z))) → StatementAllowed (roll-Statement z)
 form z make = record {
   allowed = λ h.
-  subst Allowed (sym (fold-roll-Statement (List Token) (List Token) (List Token) otherwise_tokens_step statement_tokens_step branch_tokens_step z))
-  (make (sym (fold-roll-Statement Bool Bool Bool spelled_otherwise_step spelled_statement_step spelled_branch_step z) ∙ h));
+      subst Allowed (sym (fold-roll-Statement (List Token) (List Token) (List Token) otherwise_tokens_step statement_tokens_step branch_tokens_step z))
+      (make (sym (fold-roll-Statement Bool Bool Bool spelled_otherwise_step spelled_statement_step spelled_branch_step z) ∙ h));
 }
 
 branch_form : (z : Branch-F Otherwise Statement Branch) → (spelled_branch_step (map-Branch Otherwise Statement Branch Bool Bool Bool is_spelled_otherwise is_spelled_statement is_spelled_branch z) ≡ true → Allowed (branch_tokens_step (map-Branch Otherwise Statement Branch (List Token) (List Token) (List Token) otherwise_tokens statement_tokens branch_tokens z))) → BranchAllowed (roll-Branch z)
 branch_form z make = record {
   allowed = λ h.
-  subst Allowed (sym (fold-roll-Branch (List Token) (List Token) (List Token) otherwise_tokens_step statement_tokens_step branch_tokens_step z))
-  (make (sym (fold-roll-Branch Bool Bool Bool spelled_otherwise_step spelled_statement_step spelled_branch_step z) ∙ h));
+      subst Allowed (sym (fold-roll-Branch (List Token) (List Token) (List Token) otherwise_tokens_step statement_tokens_step branch_tokens_step z))
+      (make (sym (fold-roll-Branch Bool Bool Bool spelled_otherwise_step spelled_statement_step spelled_branch_step z) ∙ h));
 }
 
 otherwise_form : (z : Otherwise-F Otherwise Statement Branch) → (spelled_otherwise_step (map-Otherwise Otherwise Statement Branch Bool Bool Bool is_spelled_otherwise is_spelled_statement is_spelled_branch z) ≡ true → Allowed (otherwise_tokens_step (map-Otherwise Otherwise Statement Branch (List Token) (List Token) (List Token) otherwise_tokens statement_tokens branch_tokens z))) → OtherwiseAllowed (roll-Otherwise z)
 otherwise_form z make = record {
   allowed = λ h.
-  subst Allowed (sym (fold-roll-Otherwise (List Token) (List Token) (List Token) otherwise_tokens_step statement_tokens_step branch_tokens_step z))
-  (make (sym (fold-roll-Otherwise Bool Bool Bool spelled_otherwise_step spelled_statement_step spelled_branch_step z) ∙ h));
+      subst Allowed (sym (fold-roll-Otherwise (List Token) (List Token) (List Token) otherwise_tokens_step statement_tokens_step branch_tokens_step z))
+      (make (sym (fold-roll-Otherwise Bool Bool Bool spelled_otherwise_step spelled_statement_step spelled_branch_step z) ∙ h));
 }
 
 each-statement : (body : List Statement) → OfEach StatementAllowed body → OfEach (λ x. is_spelled_statement x ≡ true → Allowed (statement_tokens x)) body
@@ -97,40 +98,40 @@ block body each h =
 
 local_form : (t : TypeName) (x : Named) (value : LocalValue) → StatementAllowed (roll-Statement (opened.Local t x value))
 local_form t x value = form (opened.Local t x value) (λ h.
-  let parts = and_parts (is_spelled_class t) (is_spelled_named x && is_spelled_local value) h in
-  let inner = and_parts (is_spelled_named x) (is_spelled_local value) parts.1 in
-  and-then (typed t parts.0 (named x.name inner.0 (local_value value inner.1))) semicolon)
+    let parts = and_parts (is_spelled_class t) (is_spelled_named x && is_spelled_local value) h in
+    let inner = and_parts (is_spelled_named x) (is_spelled_local value) parts.1 in
+    and-then (typed t parts.0 (named x.name inner.0 (local_value value inner.1))) semicolon)
 
 assign_form : (target : Lvalue) (value : RightSide) → StatementAllowed (roll-Statement (opened.Assign target value))
 assign_form target value = form (opened.Assign target value) (λ h.
-  let parts = and_parts (is_spelled_lvalue target) (is_spelled_right value) h in
-  and-then (and-then (and-then (lvalue target parts.0) (sign mark.Assign none)) (right_side value parts.1)) semicolon)
+    let parts = and_parts (is_spelled_lvalue target) (is_spelled_right value) h in
+    and-then (and-then (and-then (lvalue target parts.0) (sign mark.Assign none)) (right_side value parts.1)) semicolon)
 
 choice_form : (first : Branch) (others : List Branch) (o : Otherwise) → BranchAllowed first → OfEach BranchAllowed others → OtherwiseAllowed o → StatementAllowed (roll-Statement (opened.If first others o))
 choice_form first others o a b c = form (opened.If first others o) (λ h.
-  let parts = and_parts (is_spelled_branch first) (list_all (λ v. v) (map is_spelled_branch others) && is_spelled_otherwise o) h in
-  let inner = and_parts (list_all (λ v. v) (map is_spelled_branch others)) (is_spelled_otherwise o) parts.1 in
-  and-then (and-then (a.allowed parts.0) (flat-each is_spelled_branch branch_tokens else_tokens (λ ts more. word keyword.Else more) others (each-branch others b) inner.0)) (c.allowed inner.1))
+    let parts = and_parts (is_spelled_branch first) (list_all (λ v. v) (map is_spelled_branch others) && is_spelled_otherwise o) h in
+    let inner = and_parts (list_all (λ v. v) (map is_spelled_branch others)) (is_spelled_otherwise o) parts.1 in
+    and-then (and-then (a.allowed parts.0) (flat-each is_spelled_branch branch_tokens else_tokens (λ ts more. word keyword.Else more) others (each-branch others b) inner.0)) (c.allowed inner.1))
 
 count_form : (kind : IntegerType) (x : Named) (from : SignedLiteral) (at : Place) (below : SignedLiteral) (body : List Statement) → OfEach StatementAllowed body → StatementAllowed (roll-Statement (opened.Count kind x from at below body))
 count_form kind x from at below body each = form (opened.Count kind x from at below body) (λ h.
-  let parts = and_parts (is_spelled_count x from below) (list_all (λ v. v) (map is_spelled_statement body)) h in
-  let head = and_parts (is_spelled_named x && is_spelled_signed from) (is_spelled_signed below) parts.0 in
-  let inner = and_parts (is_spelled_named x) (is_spelled_signed from) head.0 in
-  let begun : Allowed (count_start_tokens kind x from) =
-      and-then (word keyword.For (sign mark.OpenParenthesis (word (keyword.Integer kind) (named x.name inner.0 (sign mark.Assign (signed from inner.1)))))) semicolon in
-  let ended : Allowed (count_end_tokens x below) =
-      and-then (named x.name inner.0 (sign mark.Less (signed below head.1))) (sign mark.Semicolon (named x.name inner.0 (sign mark.Increment (sign mark.CloseParenthesis none)))) in
-  and-then (and-then begun ended) (block body each parts.1))
+    let parts = and_parts (is_spelled_count x from below) (list_all (λ v. v) (map is_spelled_statement body)) h in
+    let head = and_parts (is_spelled_named x && is_spelled_signed from) (is_spelled_signed below) parts.0 in
+    let inner = and_parts (is_spelled_named x) (is_spelled_signed from) head.0 in
+    let begun : Allowed (count_start_tokens kind x from) =
+    and-then (word keyword.For (sign mark.OpenParenthesis (word (keyword.Integer kind) (named x.name inner.0 (sign mark.Assign (signed from inner.1)))))) semicolon in
+    let ended : Allowed (count_end_tokens x below) =
+    and-then (named x.name inner.0 (sign mark.Less (signed below head.1))) (sign mark.Semicolon (named x.name inner.0 (sign mark.Increment (sign mark.CloseParenthesis none)))) in
+    and-then (and-then begun ended) (block body each parts.1))
 
 forever_form : (body : List Statement) → OfEach StatementAllowed body → StatementAllowed (roll-Statement (opened.Forever body))
 forever_form body each = form (opened.Forever body) (λ h.
-  and-then (word keyword.For (sign mark.OpenParenthesis (sign mark.Semicolon (sign mark.Semicolon (sign mark.CloseParenthesis none))))) (block body each h))
+    and-then (word keyword.For (sign mark.OpenParenthesis (sign mark.Semicolon (sign mark.Semicolon (sign mark.CloseParenthesis none))))) (block body each h))
 
 a_branch : (condition : RightSide) (body : List Statement) → OfEach StatementAllowed body → BranchAllowed (roll-Branch (record { condition = condition; body = body }))
 a_branch condition body each = branch_form (record { condition = condition; body = body }) (λ h.
-  let parts = and_parts (is_spelled_right condition) (list_all (λ v. v) (map is_spelled_statement body)) h in
-  and-then (and-then (word keyword.If (sign mark.OpenParenthesis (right_side condition parts.0))) (sign mark.CloseParenthesis none)) (block body each parts.1))
+    let parts = and_parts (is_spelled_right condition) (list_all (λ v. v) (map is_spelled_statement body)) h in
+    and-then (and-then (word keyword.If (sign mark.OpenParenthesis (right_side condition parts.0))) (sign mark.CloseParenthesis none)) (block body each parts.1))
 
 cases : Cases OtherwiseAllowed StatementAllowed BranchAllowed
 cases = record {

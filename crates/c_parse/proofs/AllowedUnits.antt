@@ -30,7 +30,8 @@ use Rattle.c_parse.specs.PrintedUnits.{declared_tokens, enumeration_tokens, memb
 use Rattle.c_parse.specs.declared.keyword.Keyword.TheVariants as keyword
 use Rattle.c_parse.specs.declared.mark.Mark.TheVariants as mark
 use Rattle.c_parse.specs.declared.token.Token.TheVariants as token
-use Rattle.c_parse.proofs.AllowedExpressions.{Allowed, none, and-then, sign, word, named, literal, flat, parted, right_side}
+use Rattle.c_parse.proofs.AllowedExpressions.{Allowed, none, and-then, sign, word, named, literal, flat, parted}
+use Rattle.c_parse.proofs.AllowedCalls.{right_side}
 use Rattle.c_parse.proofs.AllowedStatements.{typed, signed, zero, statement}
 
 length_of : (o : Option Literal) → is_spelled_length o ≡ true → Allowed (length_tokens o)

@@ -1,4 +1,5 @@
 pub mod Allowed
+pub mod AllowedCalls
 pub mod AllowedExpressions
 pub mod AllowedStatements
 pub mod AllowedUnits
@@ -81,7 +82,9 @@ pub mod WholeUnits
 pub mod WordFronts
 pub mod Written
 pub mod WrittenCalls
+pub mod WrittenDeclarations
 pub mod WrittenExpressions
+pub mod WrittenHeads
 pub mod WrittenOperands
 pub mod WrittenStatements
 pub mod WrittenUnits

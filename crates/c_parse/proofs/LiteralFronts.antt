@@ -97,7 +97,7 @@ unfolding literal_token
 literal-front n all rest is past numeral =
     let width : length all - length rest ≡ length n = ap (λ (l : List ℕ). length l - length rest) is ∙ omega (arith, length-append n rest) in
     let spelling : take (length all - length (past_numeral all)) all ≡ n =
-        ap (λ (l : List ℕ). take (length all - length l) all) past ∙ ap (λ (k : ℕ). take k all) width ∙ ap (λ (l : List ℕ). take (length n) l) is ∙ take-append_seam n rest in
+    ap (λ (l : List ℕ). take (length all - length l) all) past ∙ ap (λ (k : ℕ). take k all) width ∙ ap (λ (l : List ℕ). take (length n) l) is ∙ take-append_seam n rest in
     rw (spelling, numeral, past) refl
 
 digit-front : (b : ℕ) (bs : List ℕ) → is_digit b ≡ true → token_at (b ∷ bs) ≡ literal_token (b ∷ bs)

@@ -49,48 +49,48 @@ split (u ∷ us) vs (t ∷ ts) e =
 pub after : {X Y : Type 0} {A : X → Tokens → Type 0} {B : Y → Tokens → Type 0} {f : X → X} {g : Y → Y} {x : X} {y : Y} {us vs : List Token} → Respells A f x us → Respells B g y vs → Respells (A ⋅ B) (both_bare f g) (x, y) (us ++ vs)
 after {X} {Y} {A} {B} {f} {g} {x} {y} {us} {vs} a b = record {
   found = λ ts e.
-  let parts = split us vs ts e in
-  let p = a.found parts.0 parts.3 in
-  let q = b.found parts.1 parts.4 in
-  ((p.0, q.0), (parts.0, parts.1, parts.2, p.1, q.1), ap (λ (w : X). (w, g q.0)) p.2 ∙ ap (λ (w : Y). (x, w)) q.2);
+      let parts = split us vs ts e in
+      let p = a.found parts.0 parts.3 in
+      let q = b.found parts.1 parts.4 in
+      ((p.0, q.0), (parts.0, parts.1, parts.2, p.1, q.1), ap (λ (w : X). (w, g q.0)) p.2 ∙ ap (λ (w : Y). (x, w)) q.2);
 }
 
 -- a text of one language that makes one of another
 pub turned : {X Y : Type 0} {A : Y → Tokens → Type 0} {B : X → Tokens → Type 0} {f : Y → Y} {g : X → X} {z : Y} {w : X} {us : List Token} → (build : Y → X) → ((y : Y) (ts : Tokens) → A y ts → B (build y) ts) → ((y : Y) → f y ≡ z → g (build y) ≡ w) → Respells A f z us → Respells B g w us
 turned build makes same a = record {
   found = λ ts e.
-  let p = a.found ts e in
-  (build p.0, makes p.0 ts p.1, same p.0 p.2);
+      let p = a.found ts e in
+      (build p.0, makes p.0 ts p.1, same p.0 p.2);
 }
 
 -- a value that is built of another one
 pub built : {Y Z : Type 0} {A : Y → Tokens → Type 0} {f : Y → Y} {g : Z → Z} {y : Y} {w : Z} {us : List Token} → (build : Y → Z) → Respells A f y us → ((x : Y) → g (build x) ≡ build (f x)) → build y ≡ w → Respells (Made build A) g w us
 built build a same is = record {
   found = λ ts e.
-  let p = a.found ts e in
-  (build p.0, (p.0, refl, p.1), same p.0 ∙ ap build p.2 ∙ is);
+      let p = a.found ts e in
+      (build p.0, (p.0, refl, p.1), same p.0 ∙ ap build p.2 ∙ is);
 }
 
 module _ {Z : Type 0} {A B : Z → Tokens → Type 0} {g : Z → Z} {w : Z} {us : List Token} where
   pub one-way : Respells A g w us → Respells (A ∣ B) g w us
   one-way a = record {
     found = λ ts e.
-    let p = a.found ts e in
-    (p.0, inl p.1, p.2);
+        let p = a.found ts e in
+        (p.0, inl p.1, p.2);
   }
 
   pub other-way : Respells B g w us → Respells (A ∣ B) g w us
   other-way b = record {
     found = λ ts e.
-    let p = b.found ts e in
-    (p.0, inr p.1, p.2);
+        let p = b.found ts e in
+        (p.0, inr p.1, p.2);
   }
 
 pub in-full : {Z : Type 0} {A : Z → Tokens → Type 0} {g : Z → Z} {w : Z} {us : List Token} → (full : Bool) → IsTrue full → Respells A g w us → Respells (InFull full A) g w us
 in-full full is a = record {
   found = λ ts e.
-  let p = a.found ts e in
-  (p.0, (is, p.1), p.2);
+      let p = a.found ts e in
+      (p.0, (is, p.1), p.2);
 }
 
 -- one token, which has the value at each place
@@ -111,8 +111,8 @@ module _ {X : Type 0} {A : X → Tokens → Type 0} {f : X → X} where
   pub there : {z : X} {us : List Token} → Respells A f z us → Respells (Maybe A) (option_map f) (Some z) us
   there {z} a = record {
     found = λ ts e.
-    let p = a.found ts e in
-    (Some p.0, p.1, ap (λ (y : X). Some y) p.2);
+        let p = a.found ts e in
+        (Some p.0, p.1, ap (λ (y : X). Some y) p.2);
   }
 
   module _ (tokens : X → List Token) where

@@ -92,5 +92,5 @@ module _ (full : Bool) where
       other-way (built (λ p. p.1) (after (sign mark.Assign) given) (λ y. refl) refl)
   local_value (local.Given value) allowed =
       let given : Respells (SpellsGiven full) unplaced_local (local.Given (unplaced_right value)) (right_tokens value) =
-          other-way (built local.Given (right_side value allowed) (λ y. refl) refl) in
+      other-way (built local.Given (right_side value allowed) (λ y. refl) refl) in
       other-way (built (λ p. p.1) (after (sign mark.Assign) given) (λ y. refl) refl)

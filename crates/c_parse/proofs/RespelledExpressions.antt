@@ -38,19 +38,19 @@ module _ (full : Bool) where
   part-read : (z : Selector-F Expression Selector Lvalue) → (Allows full (is_user_part_step (map-Selector Expression Selector Lvalue Bool Bool Bool is_user_expression is_user_part is_user_lvalue z)) → Respells (SpellsPart full) unplaced_part (unplaced_part_step (map-Selector Expression Selector Lvalue Expression Selector Lvalue unplaced_expression unplaced_part unplaced_lvalue z)) (selector_tokens_step (map-Selector Expression Selector Lvalue Written (List Token) (List Token) expression_tokens selector_tokens lvalue_tokens z))) → (PartRead full) (roll-Selector z)
   part-read z read = record {
     read = λ allowed.
-    respelled-as (sym (fold-roll-Selector Written (List Token) (List Token) expression_tokens_step selector_tokens_step lvalue_tokens_step z)) (sym (fold-roll-Selector Expression Selector Lvalue unplaced_step unplaced_part_step unplaced_lvalue_step z))
-    (read (subst (λ (b : Bool). Allows full b) (fold-roll-Selector Bool Bool Bool is_user_step is_user_part_step is_user_lvalue_step z) allowed));
+        respelled-as (sym (fold-roll-Selector Written (List Token) (List Token) expression_tokens_step selector_tokens_step lvalue_tokens_step z)) (sym (fold-roll-Selector Expression Selector Lvalue unplaced_step unplaced_part_step unplaced_lvalue_step z))
+        (read (subst (λ (b : Bool). Allows full b) (fold-roll-Selector Bool Bool Bool is_user_step is_user_part_step is_user_lvalue_step z) allowed));
   }
 
   member-read : (x : Named) → (PartRead full) (roll-Selector (opened.Member x))
   member-read x = part-read (opened.Member x) (λ allowed.
-    one-way (turned member_part (λ k ts text. (k, refl, text)) (λ k same. unplaced-Member k.1 ∙ ap (λ (q : Place × Named). selector.Member q.1) same)
-    (after (sign mark.Dot) (named x))))
+      one-way (turned member_part (λ k ts text. (k, refl, text)) (λ k same. unplaced-Member k.1 ∙ ap (λ (q : Place × Named). selector.Member q.1) same)
+      (after (sign mark.Dot) (named x))))
 
   index-read : (x : Expression) → (ExpressionRead full) x → (PartRead full) (roll-Selector (opened.Index x))
   index-read x inner = part-read (opened.Index x) (λ allowed.
-    other-way (turned index_part (λ k ts text. (k, refl, text)) (λ k same. unplaced-Index k.1.0 ∙ ap (λ (q : IndexParts). selector.Index q.1.0) same)
-    (after (sign mark.OpenBracket) (after ((inner.read allowed).at Whole) (sign mark.CloseBracket)))))
+      other-way (turned index_part (λ k ts text. (k, refl, text)) (λ k same. unplaced-Index k.1.0 ∙ ap (λ (q : IndexParts). selector.Index q.1.0) same)
+      (after (sign mark.OpenBracket) (after ((inner.read allowed).at Whole) (sign mark.CloseBracket)))))
 
   -- one part more
   more-parts : (x : Selector) (xs : List Selector) (us vs ts : Tokens) → ts ≡ us ++ vs → SpellsPart full x us → SpellsParts full xs vs → SpellsParts full (x ∷ xs) ts
@@ -94,14 +94,14 @@ module _ (full : Bool) where
   lvalue-read : (b : Base) (ps : List Selector) → OfEach (PartRead full) ps → (LvalueRead full) (roll-Lvalue (record { base = b; parts = ps }))
   lvalue-read b ps each = record {
     read = λ allowed.
-    let z : Lvalue-F Expression Selector Lvalue = record { base = b; parts = ps } in
-    let both = allows-both full (is_user_base b) (list_all (λ v. v) (map is_user_part ps))
+        let z : Lvalue-F Expression Selector Lvalue = record { base = b; parts = ps } in
+        let both = allows-both full (is_user_base b) (list_all (λ v. v) (map is_user_part ps))
         (subst (λ (v : Bool). Allows full v) (fold-roll-Lvalue Bool Bool Bool is_user_step is_user_part_step is_user_lvalue_step z) allowed) in
-    let inner = allows-each full is_user_part ps (subst (λ (v : Bool). Allows full v) (all-map is_user_part ps) both.1) in
-    respelled-as (sym (fold-roll-Lvalue Written (List Token) (List Token) expression_tokens_step selector_tokens_step lvalue_tokens_step z)) (sym (fold-roll-Lvalue Expression Selector Lvalue unplaced_step unplaced_part_step unplaced_lvalue_step z))
-    (turned (λ (k : Base × List Selector). record { base = k.0; parts = k.1 }) (λ k ts text. grammar.lvalue full k.0 k.1 text.0 text.1 (record { base = k.0; parts = k.1 }) ts refl text.2 text.3 text.4)
-    (λ k same. unplaced-Lvalue (record { base = k.0; parts = k.1 }) ∙ ap (λ (q : Base × List Selector). record { base = q.0; parts = q.1 }) same)
-    (after (base-read b both.0) (parts ps each inner)));
+        let inner = allows-each full is_user_part ps (subst (λ (v : Bool). Allows full v) (all-map is_user_part ps) both.1) in
+        respelled-as (sym (fold-roll-Lvalue Written (List Token) (List Token) expression_tokens_step selector_tokens_step lvalue_tokens_step z)) (sym (fold-roll-Lvalue Expression Selector Lvalue unplaced_step unplaced_part_step unplaced_lvalue_step z))
+        (turned (λ (k : Base × List Selector). record { base = k.0; parts = k.1 }) (λ k ts text. grammar.lvalue full k.0 k.1 text.0 text.1 (record { base = k.0; parts = k.1 }) ts refl text.2 text.3 text.4)
+        (λ k same. unplaced-Lvalue (record { base = k.0; parts = k.1 }) ∙ ap (λ (q : Base × List Selector). record { base = q.0; parts = q.1 }) same)
+        (after (base-read b both.0) (parts ps each inner)));
   }
 
   cases : Cases (ExpressionRead full) (PartRead full) (LvalueRead full)

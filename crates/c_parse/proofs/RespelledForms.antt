@@ -57,9 +57,9 @@ module _ (full : Bool) where
   pub form-read : (z : Layer) → (Allows full (is_user_step (map-Expression Expression Selector Lvalue Bool Bool Bool is_user_expression is_user_part is_user_lvalue z)) → ReadAt (unplaced_step (map-Expression Expression Selector Lvalue Expression Selector Lvalue unplaced_expression unplaced_part unplaced_lvalue z)) (expression_tokens_step (map-Expression Expression Selector Lvalue Written (List Token) (List Token) expression_tokens selector_tokens lvalue_tokens z))) → ExpressionRead (roll-Expression z)
   form-read z read = record {
     read = λ allowed.
-    subst (λ (x : Expression). ReadAt x (expression_tokens (roll-Expression z))) (sym (fold-roll-Expression Expression Selector Lvalue unplaced_step unplaced_part_step unplaced_lvalue_step z))
-    (subst (λ (w : Written). ReadAt (unplaced_step (map-Expression Expression Selector Lvalue Expression Selector Lvalue unplaced_expression unplaced_part unplaced_lvalue z)) w) (sym (fold-roll-Expression Written (List Token) (List Token) expression_tokens_step selector_tokens_step lvalue_tokens_step z))
-    (read (subst (λ (b : Bool). Allows full b) (fold-roll-Expression Bool Bool Bool is_user_step is_user_part_step is_user_lvalue_step z) allowed)));
+        subst (λ (x : Expression). ReadAt x (expression_tokens (roll-Expression z))) (sym (fold-roll-Expression Expression Selector Lvalue unplaced_step unplaced_part_step unplaced_lvalue_step z))
+        (subst (λ (w : Written). ReadAt (unplaced_step (map-Expression Expression Selector Lvalue Expression Selector Lvalue unplaced_expression unplaced_part unplaced_lvalue z)) w) (sym (fold-roll-Expression Written (List Token) (List Token) expression_tokens_step selector_tokens_step lvalue_tokens_step z))
+        (read (subst (λ (b : Bool). Allows full b) (fold-roll-Expression Bool Bool Bool is_user_step is_user_part_step is_user_lvalue_step z) allowed)));
   }
 
   pub whole-of : {g : Expression → Expression} {z : Expression} {us : List Token} → Respells (SpellsPrefix full) g z us → Respells (SpellsWhole full) g z us
@@ -74,22 +74,22 @@ module _ (full : Bool) where
   pub number-read : (start : Place) (l : Literal) → ExpressionRead (roll-Expression (opened.Number start l))
   number-read start l = form-read (opened.Number start l) (λ allowed. record {
     at = λ p. placed p
-      (turned (λ (k : Literal). expression.Number k.place k) (λ k ts text. grammar.number full k (expression.Number k.place k) ts refl text)
-      (λ k same. unplaced-Number k.place k ∙ ap (expression.Number origin) same) (literal l));
+        (turned (λ (k : Literal). expression.Number k.place k) (λ k ts text. grammar.number full k (expression.Number k.place k) ts refl text)
+        (λ k same. unplaced-Number k.place k ∙ ap (expression.Number origin) same) (literal l));
   })
 
   pub truth-read : (start : Place) (b : Bool) → ExpressionRead (roll-Expression (opened.Truth start b))
   truth-read start b = form-read (opened.Truth start b) (λ allowed. record {
     at = λ p. placed p
-      (turned (λ (k : Place × Bool). expression.Truth k.0 k.1) (λ k ts text. grammar.truth full k (expression.Truth k.0 k.1) ts refl text)
-      (λ k same. unplaced-Truth k.0 k.1 ∙ ap (λ (q : Place × Bool). expression.Truth origin q.1) same) (truth b));
+        (turned (λ (k : Place × Bool). expression.Truth k.0 k.1) (λ k ts text. grammar.truth full k (expression.Truth k.0 k.1) ts refl text)
+        (λ k same. unplaced-Truth k.0 k.1 ∙ ap (λ (q : Place × Bool). expression.Truth origin q.1) same) (truth b));
   })
 
   pub value-read : (start : Place) (l : Lvalue) → LvalueRead l → ExpressionRead (roll-Expression (opened.Value start l))
   value-read start l inner = form-read (opened.Value start l) (λ allowed. record {
     at = λ p. placed p
-      (turned (λ (k : Lvalue). expression.Value (start_of_base k.base) k) (λ k ts text. grammar.value full k (expression.Value (start_of_base k.base) k) ts refl text)
-      (λ k same. unplaced-Value (start_of_base k.base) k ∙ ap (expression.Value origin) same) (inner.read allowed));
+        (turned (λ (k : Lvalue). expression.Value (start_of_base k.base) k) (λ k ts text. grammar.value full k (expression.Value (start_of_base k.base) k) ts refl text)
+        (λ k same. unplaced-Value (start_of_base k.base) k ∙ ap (expression.Value origin) same) (inner.read allowed));
   })
 
   -- an operator before an operand, but for its place
@@ -109,10 +109,10 @@ module _ (full : Bool) where
   pub unary-read : (start : Place) (o : UnaryOperator) (at : Place) (x : Expression) → ExpressionRead x → ExpressionRead (roll-Expression (opened.Unary start o at x))
   unary-read start o at x inner = form-read (opened.Unary start o at x) (λ allowed. record {
     at = λ p. placed p
-      (turned (λ (k : (Place × UnaryOperator) × Expression). expression.Unary k.0.0 k.0.1 k.0.0 k.1)
-      (λ k ts text. grammar.unary full k.0 k.1 text.0 text.1 (expression.Unary k.0.0 k.0.1 k.0.0 k.1) ts refl text.2 text.3 text.4)
-      (λ k same. unplaced-Unary k.0.0 k.0.1 k.0.0 k.1 ∙ ap (λ (q : (Place × UnaryOperator) × Expression). expression.Unary origin q.0.1 origin q.1) same)
-      (after (prefix_operator o) (behind_operator o (inner.read allowed))));
+        (turned (λ (k : (Place × UnaryOperator) × Expression). expression.Unary k.0.0 k.0.1 k.0.0 k.1)
+        (λ k ts text. grammar.unary full k.0 k.1 text.0 text.1 (expression.Unary k.0.0 k.0.1 k.0.0 k.1) ts refl text.2 text.3 text.4)
+        (λ k same. unplaced-Unary k.0.0 k.0.1 k.0.0 k.1 ∙ ap (λ (q : (Place × UnaryOperator) × Expression). expression.Unary origin q.0.1 origin q.1) same)
+        (after (prefix_operator o) (behind_operator o (inner.read allowed))));
   })
 
   abbrev CastParts : Type 0
@@ -133,7 +133,7 @@ module _ (full : Bool) where
   pub cast-read : (start : Place) (c : IntegerType) (at : Place) (x : Expression) → ExpressionRead x → ExpressionRead (roll-Expression (opened.Cast start c at x))
   cast-read start c at x inner = form-read (opened.Cast start c at x) (λ allowed. record {
     at = λ p. placed p
-      (turned cast_of cast-spelled
-      (λ k same. unplaced-Cast k.0 k.1.0.1 k.0 k.1.1.1 ∙ ap (λ (q : CastParts). expression.Cast origin q.1.0.1 origin q.1.1.1) same)
-      (after (sign mark.OpenParenthesis) (after (integer c) (after (sign mark.CloseParenthesis) ((inner.read allowed).at Operand)))));
+        (turned cast_of cast-spelled
+        (λ k same. unplaced-Cast k.0 k.1.0.1 k.0 k.1.1.1 ∙ ap (λ (q : CastParts). expression.Cast origin q.1.0.1 origin q.1.1.1) same)
+        (after (sign mark.OpenParenthesis) (after (integer c) (after (sign mark.CloseParenthesis) ((inner.read allowed).at Operand)))));
   })

@@ -120,5 +120,5 @@ module _ (full : Bool) where
 
   pub binary-read : (start : Place) (o : BinaryOperator) (at : Place) (l r : Expression) → (ExpressionRead full) l → (ExpressionRead full) r → (ExpressionRead full) (roll-Expression (opened.Binary start o at l r))
   binary-read start o at l r a b = (form-read full) (opened.Binary start o at l r) (λ allowed.
-    let both = allows-both full (is_user_expression l) (is_user_expression r) allowed in
-    record { at = λ p. grouped p (binary-whole o ((a.read both.0).at Operand) ((b.read both.1).at Operand)) })
+      let both = allows-both full (is_user_expression l) (is_user_expression r) allowed in
+      record { at = λ p. grouped p (binary-whole o ((a.read both.0).at Operand) ((b.read both.1).at Operand)) })

@@ -58,14 +58,16 @@ count-end x below =
 pub a_count : (class : IntegerType) (x : Named) (from below : SignedLiteral) → Respells SpellsCount (both_bare start_bare end_bare) (record { class = class; name = unplaced_named x; from = unplaced_signed from }, record { place = origin; below = unplaced_signed below }) (start_tokens class x from ++ count_end_tokens x below)
 a_count class x from below = record {
   found = λ ts e.
-  let bare_start : CountStart = record { class = class; name = unplaced_named x; from = unplaced_signed from } in
-  let bare_end : CountEnd = record { place = origin; below = unplaced_signed below } in
-  let halves = split (start_tokens class x from) (count_end_tokens x below) ts e in
-  let first = (count-start class x from).found halves.0 halves.3 in
-  let last = (count-end x below).found halves.1 halves.4 in
-  let name_is : first.0.name.name ≡ x.name = ap (λ (h : CountStart). h.name.name) first.2 in
-  ((first.0, last.0), (halves.0, halves.1, halves.2, first.1, subst (λ (n : List ℕ). SpellsCountEnd n last.0 halves.1) (sym name_is) last.1),
-  ap (λ (h : CountStart). (h, end_bare last.0)) first.2 ∙ ap (λ (h : CountEnd). (bare_start, h)) last.2);
+      let bare_start : CountStart = record { class = class; name = unplaced_named x; from = unplaced_signed from } in
+      let bare_end : CountEnd = record { place = origin; below = unplaced_signed below } in
+      let halves = split (start_tokens class x from) (count_end_tokens x below) ts e in
+      let first = (count-start class x from).found halves.0 halves.3 in
+      let last = (count-end x below).found halves.1 halves.4 in
+      let name_is : first.0.name.name ≡ x.name = ap (λ (h : CountStart). h.name.name) first.2 in (
+        (first.0, last.0),
+        (halves.0, halves.1, halves.2, first.1, subst (λ (n : List ℕ). SpellsCountEnd n last.0 halves.1) (sym name_is) last.1),
+        ap (λ (h : CountStart). (h, end_bare last.0)) first.2 ∙ ap (λ (h : CountEnd). (bare_start, h)) last.2,
+      );
 }
 
 pub forever_head : Respells SpellsForeverHead (λ u. u) tt (token.Mark mark.Semicolon ∷ token.Mark mark.Semicolon ∷ token.Mark mark.CloseParenthesis ∷ [])
@@ -84,22 +86,22 @@ module _ (full : Bool) where
   pub statement-read : (z : Statement-F Otherwise Statement Branch) → (Allows full (is_user_statement_step (map-Statement Otherwise Statement Branch Bool Bool Bool is_user_otherwise is_user_statement is_user_branch z)) → Respells (SpellsStatement full) unplaced_statement (unplaced_statement_step (map-Statement Otherwise Statement Branch Otherwise Statement Branch unplaced_otherwise unplaced_statement unplaced_branch z)) (statement_tokens_step (map-Statement Otherwise Statement Branch (List Token) (List Token) (List Token) otherwise_tokens statement_tokens branch_tokens z))) → StatementRead (roll-Statement z)
   statement-read z read = record {
     read = λ allowed.
-    respelled-as (sym (fold-roll-Statement (List Token) (List Token) (List Token) otherwise_tokens_step statement_tokens_step branch_tokens_step z)) (sym (fold-roll-Statement Otherwise Statement Branch unplaced_otherwise_step unplaced_statement_step unplaced_branch_step z))
-    (read (subst (λ (b : Bool). Allows full b) (fold-roll-Statement Bool Bool Bool is_user_otherwise_step is_user_statement_step is_user_branch_step z) allowed));
+        respelled-as (sym (fold-roll-Statement (List Token) (List Token) (List Token) otherwise_tokens_step statement_tokens_step branch_tokens_step z)) (sym (fold-roll-Statement Otherwise Statement Branch unplaced_otherwise_step unplaced_statement_step unplaced_branch_step z))
+        (read (subst (λ (b : Bool). Allows full b) (fold-roll-Statement Bool Bool Bool is_user_otherwise_step is_user_statement_step is_user_branch_step z) allowed));
   }
 
   pub branch-read : (z : Branch-F Otherwise Statement Branch) → (Allows full (is_user_branch_step (map-Branch Otherwise Statement Branch Bool Bool Bool is_user_otherwise is_user_statement is_user_branch z)) → Respells (SpellsBranch full) unplaced_branch (unplaced_branch_step (map-Branch Otherwise Statement Branch Otherwise Statement Branch unplaced_otherwise unplaced_statement unplaced_branch z)) (branch_tokens_step (map-Branch Otherwise Statement Branch (List Token) (List Token) (List Token) otherwise_tokens statement_tokens branch_tokens z))) → BranchRead (roll-Branch z)
   branch-read z read = record {
     read = λ allowed.
-    respelled-as (sym (fold-roll-Branch (List Token) (List Token) (List Token) otherwise_tokens_step statement_tokens_step branch_tokens_step z)) (sym (fold-roll-Branch Otherwise Statement Branch unplaced_otherwise_step unplaced_statement_step unplaced_branch_step z))
-    (read (subst (λ (b : Bool). Allows full b) (fold-roll-Branch Bool Bool Bool is_user_otherwise_step is_user_statement_step is_user_branch_step z) allowed));
+        respelled-as (sym (fold-roll-Branch (List Token) (List Token) (List Token) otherwise_tokens_step statement_tokens_step branch_tokens_step z)) (sym (fold-roll-Branch Otherwise Statement Branch unplaced_otherwise_step unplaced_statement_step unplaced_branch_step z))
+        (read (subst (λ (b : Bool). Allows full b) (fold-roll-Branch Bool Bool Bool is_user_otherwise_step is_user_statement_step is_user_branch_step z) allowed));
   }
 
   pub otherwise-read : (z : Otherwise-F Otherwise Statement Branch) → (Allows full (is_user_otherwise_step (map-Otherwise Otherwise Statement Branch Bool Bool Bool is_user_otherwise is_user_statement is_user_branch z)) → Respells (SpellsOtherwise full) unplaced_otherwise (unplaced_otherwise_step (map-Otherwise Otherwise Statement Branch Otherwise Statement Branch unplaced_otherwise unplaced_statement unplaced_branch z)) (otherwise_tokens_step (map-Otherwise Otherwise Statement Branch (List Token) (List Token) (List Token) otherwise_tokens statement_tokens branch_tokens z))) → OtherwiseRead (roll-Otherwise z)
   otherwise-read z read = record {
     read = λ allowed.
-    respelled-as (sym (fold-roll-Otherwise (List Token) (List Token) (List Token) otherwise_tokens_step statement_tokens_step branch_tokens_step z)) (sym (fold-roll-Otherwise Otherwise Statement Branch unplaced_otherwise_step unplaced_statement_step unplaced_branch_step z))
-    (read (subst (λ (b : Bool). Allows full b) (fold-roll-Otherwise Bool Bool Bool is_user_otherwise_step is_user_statement_step is_user_branch_step z) allowed));
+        respelled-as (sym (fold-roll-Otherwise (List Token) (List Token) (List Token) otherwise_tokens_step statement_tokens_step branch_tokens_step z)) (sym (fold-roll-Otherwise Otherwise Statement Branch unplaced_otherwise_step unplaced_statement_step unplaced_branch_step z))
+        (read (subst (λ (b : Bool). Allows full b) (fold-roll-Otherwise Bool Bool Bool is_user_otherwise_step is_user_statement_step is_user_branch_step z) allowed));
   }
 
   -- what has no block
@@ -108,22 +110,22 @@ module _ (full : Bool) where
 
   pub local-read : (class : TypeName) (x : Named) (value : LocalValue) → StatementRead (roll-Statement (opened.Local class x value))
   local-read class x value = statement-read (opened.Local class x value) (λ allowed.
-    plain (one-way (built local_of (after (type_name class) (after (named x) (after (local_value full value allowed) (sign mark.Semicolon)))) (λ y. unplaced-Local y.0 y.1.0 y.1.1.0) refl)))
+      plain (one-way (built local_of (after (type_name class) (after (named x) (after (local_value full value allowed) (sign mark.Semicolon)))) (λ y. unplaced-Local y.0 y.1.0 y.1.1.0) refl)))
 
   four-parts : (a b c d : List Token) → a ++ (b ++ (c ++ d)) ≡ a ++ b ++ c ++ d
   four-parts a b c d = simp append_assoc
 
   pub assign-read : (target : Lvalue) (value : RightSide) → StatementRead (roll-Statement (opened.Assign target value))
   assign-read target value = statement-read (opened.Assign target value) (λ allowed.
-    let both = allows-both full (is_user_lvalue target) (is_user_right value) allowed in
-    plain (other-way (one-way
-    (respelled-as (four-parts (lvalue_tokens target) (token.Mark mark.Assign ∷ []) (right_tokens value) (token.Mark mark.Semicolon ∷ [])) refl
-    (built assign_of (after (an_lvalue full target both.0) (after (sign mark.Assign) (after (right_side full value both.1) (sign mark.Semicolon)))) (λ y. unplaced-Assign y.0 y.1.1.0) refl)))))
+      let both = allows-both full (is_user_lvalue target) (is_user_right value) allowed in
+      plain (other-way (one-way
+      (respelled-as (four-parts (lvalue_tokens target) (token.Mark mark.Assign ∷ []) (right_tokens value) (token.Mark mark.Semicolon ∷ [])) refl
+      (built assign_of (after (an_lvalue full target both.0) (after (sign mark.Assign) (after (right_side full value both.1) (sign mark.Semicolon)))) (λ y. unplaced-Assign y.0 y.1.1.0) refl)))))
 
   pub call-read : (c : Call) → StatementRead (roll-Statement (opened.Call c))
   call-read c = statement-read (opened.Call c) (λ allowed.
-    plain (other-way (other-way (one-way (built (λ p. statement.Call p.0) (after (call full c allowed) (sign mark.Semicolon)) (λ y. unplaced-Call y.0) refl)))))
+      plain (other-way (other-way (one-way (built (λ p. statement.Call p.0) (after (call full c allowed) (sign mark.Semicolon)) (λ y. unplaced-Call y.0) refl)))))
 
   pub break-read : StatementRead (roll-Statement opened.Break)
   break-read = statement-read opened.Break (λ allowed.
-    plain (other-way (other-way (other-way (in-full full (allows-full full allowed) (built (λ p. statement.Break) (after (word keyword.Break) (sign mark.Semicolon)) (λ y. unplaced-Break) refl))))))
+      plain (other-way (other-way (other-way (in-full full (allows-full full allowed) (built (λ p. statement.Break) (after (word keyword.Break) (sign mark.Semicolon)) (λ y. unplaced-Break) refl))))))

@@ -1,6 +1,8 @@
 -- The canonical tokens of statements spell them.
-use Rattle.std.proofs.Common.{◌≡◌, Bool, true, List, [], ◌∷◌, ◌++◌, map, refl, sym, ap, ◌∙◌, subst, append_assoc}
+use Rattle.std.proofs.Common.{◌≡◌, ℕ, nat_le, Bool, true, false, List, [], ◌∷◌, ◌++◌, map, length, refl, sym, ap, ◌∙◌, subst, append_assoc, inl, inr}
 use Rattle.std.specs.Prelude.{◌&&◌, ⊤}
+use Rattle.std.proofs.lemmas.Bool.{leb-true}
+use Rattle.std.proofs.lemmas.List.{length-map}
 use Rattle.std.specs.List.{flat_map, list_all}
 use Rattle.hw_text.specs.declared.place.Place.{Place}
 use Rattle.c_tree.specs.Unplaced.{unplaced_right, unplaced_statement, unplaced_branch}
@@ -19,7 +21,7 @@ use Rattle.c_tree.specs.declared.statement.Otherwise.TheViews.{roll-Statement, r
 use Rattle.c_parse.specs.PlainGrammar.{SpellsCondition}
 use Rattle.c_parse.specs.PrintedStatements.{block_tokens, else_tokens, statement_tokens, branch_tokens, otherwise_tokens}
 use Rattle.c_parse.specs.PrintedExpressions.{right_tokens}
-use Rattle.c_parse.specs.StatementGrammar.{count_of, SpellsStatement, SpellsLoop, SpellsStatements, SpellsBlock, SpellsBranch, SpellsElseIfs, SpellsOtherwise}
+use Rattle.c_parse.specs.StatementGrammar.{LinksFit, count_of, SpellsStatement, SpellsLoop, SpellsStatements, SpellsBlock, SpellsBranch, SpellsElseIfs, SpellsOtherwise}
 use Rattle.c_parse.specs.StatementGrammar as grammar
 use Rattle.c_parse.specs.UserUnits.{is_user_right, is_user_statement, is_user_branch, is_user_otherwise}
 use Rattle.c_parse.specs.Values.{Tokens}
@@ -36,6 +38,11 @@ use Rattle.c_parse.proofs.RespelledWords.{sign, word}
 use Rattle.c_parse.proofs.StatementInduction.{Cases, of_each_statement}
 use Rattle.c_parse.proofs.UnplacedStatements.{unplaced-If, unplaced-Count, unplaced-Forever, unplaced-Branch, unplaced-Nothing, unplaced-Block}
 use Rattle.c_parse.proofs.RespelledPlains.{a_count, forever_head, StatementRead, BranchRead, OtherwiseRead, statement-read, branch-read, otherwise-read, local-read, assign-read, call-read, break-read}
+
+-- so many links, where the test allows them
+links-fit : (full : Bool) (n : ℕ) → Allows full (nat_le n 64) → LinksFit full n
+links-fit true n allowed = inl allowed
+links-fit false n allowed = inr (leb-true n 64 allowed)
 
 module _ (full : Bool) where
   statements-found : (body : List Statement) → OfEach (StatementRead full) body → OfEach (λ x. Allows full (is_user_statement x)) body → (ts : Tokens) → tokens_of ts ≡ flat_map (λ us. us) (map statement_tokens body) → (ys : List Statement) × SpellsStatements full ys ts × (map unplaced_statement ys ≡ map unplaced_statement body)
@@ -82,22 +89,31 @@ module _ (full : Bool) where
         ap (λ (p : Place × Branch). p.1 ∷ map unplaced_branch later.0) first.2 ∙ ap (λ (l : List Branch). unplaced_branch b ∷ l) later.2,
       )
 
-  elses : (bs : List Branch) → OfEach (BranchRead full) bs → OfEach (λ x. Allows full (is_user_branch x)) bs → Respells (SpellsElseIfs full) (map unplaced_branch) (map unplaced_branch bs) (flat_map else_tokens (map branch_tokens bs))
-  elses bs each allowed = record { found = λ ts e. elses-found bs each allowed ts e }
+  -- no more links than the grammar allows
+  abbrev FittingElses : List Branch → Tokens → Type 0
+  FittingElses bs ts = LinksFit full (length bs) × SpellsElseIfs full bs ts
+
+  elses : (bs : List Branch) → OfEach (BranchRead full) bs → OfEach (λ x. Allows full (is_user_branch x)) bs → LinksFit full (length bs) → Respells FittingElses (map unplaced_branch) (map unplaced_branch bs) (flat_map else_tokens (map branch_tokens bs))
+  elses bs each allowed fits = record {
+    found = λ ts e.
+        let p = elses-found bs each allowed ts e in
+        let many : length p.0 ≡ length bs = sym (length-map p.0 unplaced_branch) ∙ ap (λ (l : List Branch). length l) p.2 ∙ length-map bs unplaced_branch in
+        (p.0, (subst (LinksFit full) (sym many) fits, p.1), p.2);
+  }
 
   abbrev ChoiceParts : Type 0
   ChoiceParts = Branch × (List Branch × Otherwise)
 
   choice-read : (first : Branch) (others : List Branch) (o : Otherwise) → (BranchRead full) first → OfEach (BranchRead full) others → (OtherwiseRead full) o → (StatementRead full) (roll-Statement (opened.If first others o))
   choice-read first others o a b c = (statement-read full) (opened.If first others o) (λ allowed.
-    let both = allows-both full (is_user_branch first) (list_all (λ v. v) (map is_user_branch others) && is_user_otherwise o) allowed in
-    let rest = allows-both full (list_all (λ v. v) (map is_user_branch others)) (is_user_otherwise o) both.1 in
-    let each = allows-each full is_user_branch others (subst (λ (v : Bool). Allows full v) (all-map is_user_branch others) rest.0) in
-    respelled-as (sym (append_assoc (branch_tokens first) (flat_map else_tokens (map branch_tokens others)) (otherwise_tokens o))) refl
-    (turned (λ (k : ChoiceParts). statement.If k.0 k.1.0 k.1.1)
-    (λ k ts text. grammar.choice full k.0 k.1.0 k.1.1 text.0 text.4.0 text.4.1 (statement.If k.0 k.1.0 k.1.1) ts refl (text.2 ∙ ap (λ (l : Tokens). text.0 ++ l) text.4.2) text.3 text.4.3 text.4.4)
-    (λ k same. unplaced-If k.0 k.1.0 k.1.1 ∙ ap (λ (q : ChoiceParts). statement.If q.0 q.1.0 q.1.1) same)
-    (after (a.read both.0) (after (elses others b each) (c.read rest.1)))))
+      let both = allows-both full (is_user_branch first) (list_all (λ v. v) (map is_user_branch others) && is_user_otherwise o) allowed in
+      let rest = allows-both full (list_all (λ v. v) (map is_user_branch others)) (is_user_otherwise o) both.1 in
+      let each = allows-each full is_user_branch others (subst (λ (v : Bool). Allows full v) (all-map is_user_branch others) rest.0) in
+      respelled-as (sym (append_assoc (branch_tokens first) (flat_map else_tokens (map branch_tokens others)) (otherwise_tokens o))) refl
+      (turned (λ (k : ChoiceParts). statement.If k.0 k.1.0 k.1.1)
+      (λ k ts text. grammar.choice full k.0 k.1.0 k.1.1 text.0 text.4.0 text.4.1 (statement.If k.0 k.1.0 k.1.1) ts refl text.4.3.0 (text.2 ∙ ap (λ (l : Tokens). text.0 ++ l) text.4.2) text.3 text.4.3.1 text.4.4)
+      (λ k same. unplaced-If k.0 k.1.0 k.1.1 ∙ ap (λ (q : ChoiceParts). statement.If q.0 q.1.0 q.1.1) same)
+      (after (a.read both.0) (after (elses others b each fits) (c.read last.0)))))
 
   abbrev LoopParts : Type 0
   LoopParts = Place × (Place × Statement)
@@ -115,20 +131,20 @@ module _ (full : Bool) where
 
   count-read : (class : IntegerType) (x : Named) (from : SignedLiteral) (at : Place) (below : SignedLiteral) (body : List Statement) → OfEach (StatementRead full) body → (StatementRead full) (roll-Statement (opened.Count class x from at below body))
   count-read class x from at below body each = (statement-read full) (opened.Count class x from at below body) (λ allowed.
-    a_loop (turned count_of (λ k ts text. grammar.count full k.0 k.1 text.0 text.1 (count_of k) ts refl text.2 text.3 text.4)
-    (λ k same. unplaced-Count k.0.0.class k.0.0.name k.0.0.from k.0.1.place k.0.1.below k.1 ∙ ap (λ (q : CountParts). count_of q) same)
-    (after (a_count class x from below) (block body each allowed))))
+      a_loop (turned count_of (λ k ts text. grammar.count full k.0 k.1 text.0 text.1 (count_of k) ts refl text.2 text.3 text.4)
+      (λ k same. unplaced-Count k.0.0.class k.0.0.name k.0.0.from k.0.1.place k.0.1.below k.1 ∙ ap (λ (q : CountParts). count_of q) same)
+      (after (a_count class x from below) (block body each allowed))))
 
   abbrev ForeverParts : Type 0
   ForeverParts = ⊤ × List Statement
 
   forever-read : (body : List Statement) → OfEach (StatementRead full) body → (StatementRead full) (roll-Statement (opened.Forever body))
   forever-read body each = (statement-read full) (opened.Forever body) (λ allowed.
-    let is_full = allows-full full allowed in
-    a_loop (turned (λ (k : ForeverParts). statement.Forever k.1)
-    (λ k ts text. grammar.forever full k.0 k.1 text.0 text.1 (statement.Forever k.1) ts is_full refl text.2 text.3 text.4)
-    (λ k same. unplaced-Forever k.1 ∙ ap (λ (q : ForeverParts). statement.Forever q.1) same)
-    (after forever_head (block body each (all-full is_full (list_all (λ b. b) (map is_user_statement body)))))))
+      let is_full = allows-full full allowed in
+      a_loop (turned (λ (k : ForeverParts). statement.Forever k.1)
+      (λ k ts text. grammar.forever full k.0 k.1 text.0 text.1 (statement.Forever k.1) ts is_full refl text.2 text.3 text.4)
+      (λ k same. unplaced-Forever k.1 ∙ ap (λ (q : ForeverParts). statement.Forever q.1) same)
+      (after forever_head (block body each (all-full is_full (list_all (λ b. b) (map is_user_statement body)))))))
     where
       all-full : full ≡ true → (b : Bool) → Allows full b
       all-full is b = subst (λ (f : Bool). Allows f b) (sym is) refl
@@ -141,11 +157,11 @@ module _ (full : Bool) where
 
   a_branch : (r : RightSide) (body : List Statement) → OfEach (StatementRead full) body → (BranchRead full) (roll-Branch (record { condition = r; body = body }))
   a_branch r body each = (branch-read full) (record { condition = r; body = body }) (λ allowed.
-    let both = allows-both full (is_user_right r) (list_all (λ v. v) (map is_user_statement body)) allowed in
-    turned (λ (k : BranchParts). record { condition = k.1.0; body = k.1.1 })
-    (λ k ts text. grammar.branch full k.0 k.1.0 k.1.1 text.0 text.4.0 text.4.1 (record { condition = k.1.0; body = k.1.1 }) ts refl (text.2 ∙ ap (λ (l : Tokens). text.0 ++ l) text.4.2) text.3 text.4.3 text.4.4)
-    (λ k same. unplaced-Branch (record { condition = k.1.0; body = k.1.1 }) ∙ ap (λ (q : BranchParts). record { condition = q.1.0; body = q.1.1 }) same)
-    (after (word keyword.If) (after (condition r both.0) (block body each both.1))))
+      let both = allows-both full (is_user_right r) (list_all (λ v. v) (map is_user_statement body)) allowed in
+      turned (λ (k : BranchParts). record { condition = k.1.0; body = k.1.1 })
+      (λ k ts text. grammar.branch full k.0 k.1.0 k.1.1 text.0 text.4.0 text.4.1 (record { condition = k.1.0; body = k.1.1 }) ts refl (text.2 ∙ ap (λ (l : Tokens). text.0 ++ l) text.4.2) text.3 text.4.3 text.4.4)
+      (λ k same. unplaced-Branch (record { condition = k.1.0; body = k.1.1 }) ∙ ap (λ (q : BranchParts). record { condition = q.1.0; body = q.1.1 }) same)
+      (after (word keyword.If) (after (condition r both.0) (block body each both.1))))
 
   nothing-read : (OtherwiseRead full) (roll-Otherwise opened.Nothing)
   nothing-read = (otherwise-read full) opened.Nothing (λ allowed. record { found = λ ts e. (otherwise.Nothing, grammar.no_else full otherwise.Nothing ts refl (no-tokens ts e), unplaced-Nothing) })
@@ -155,10 +171,10 @@ module _ (full : Bool) where
 
   block-read : (body : List Statement) → OfEach (StatementRead full) body → (OtherwiseRead full) (roll-Otherwise (opened.Block body))
   block-read body each = (otherwise-read full) (opened.Block body) (λ allowed.
-    turned (λ (k : ElseParts). otherwise.Block k.1)
-    (λ k ts text. grammar.an_else full k.0 k.1 text.0 text.1 (otherwise.Block k.1) ts refl text.2 text.3 text.4)
-    (λ k same. unplaced-Block k.1 ∙ ap (λ (q : ElseParts). otherwise.Block q.1) same)
-    (after (word keyword.Else) (block body each allowed)))
+      turned (λ (k : ElseParts). otherwise.Block k.1)
+      (λ k ts text. grammar.an_else full k.0 k.1 text.0 text.1 (otherwise.Block k.1) ts refl text.2 text.3 text.4)
+      (λ k same. unplaced-Block k.1 ∙ ap (λ (q : ElseParts). otherwise.Block q.1) same)
+      (after (word keyword.Else) (block body each allowed)))
 
   cases : Cases (OtherwiseRead full) (StatementRead full) (BranchRead full)
   cases = record {

@@ -44,11 +44,11 @@ nothing-left = record { at = λ p. ([], p, refl, (refl, refl, refl)) }
 pub token-next : (text : List ℕ) (t : Token) (rest : List ℕ) (us : List Token) → StandsBefore text t rest → Has rest us → Has (text ++ rest) (t ∷ us)
 token-next text t rest us front more = record {
   at = λ p.
-  let bytes : List ℕ = text ++ rest in
-  let behind = more.at (place_of_rest p bytes (skipped rest)) in
-  let placed : Placed Token = record { token = t; place = p } in
-  subst (λ (s : List ℕ). Laid p s (t ∷ us)) (sym front.0)
-  (placed ∷ behind.0, behind.1, ap (λ (ts : List Token). t ∷ ts) behind.2, (rest, front.1, refl, behind.3));
+      let bytes : List ℕ = text ++ rest in
+      let behind = more.at (place_of_rest p bytes (skipped rest)) in
+      let placed : Placed Token = record { token = t; place = p } in
+      subst (λ (s : List ℕ). Laid p s (t ∷ us)) (sym front.0)
+      (placed ∷ behind.0, behind.1, ap (λ (ts : List Token). t ∷ ts) behind.2, (rest, front.1, refl, behind.3));
 }
 
 pub token : (Q : List ℕ → Type 0) (text : List ℕ) (t : Token) → ((rest : List ℕ) → IsAllowed t → Q rest → StandsBefore text t rest) → Writes Q text (t ∷ [])
@@ -109,11 +109,11 @@ module _ {Q R : List ℕ → Type 0} {s t : List ℕ} {ts us : List Token} where
   pub both : Writes Q s ts → Writes R t us → ((rest : List ℕ) → AreAllowed us → R rest → Q (t ++ rest)) → Writes R (s ++ t) (ts ++ us)
   both a b fits = record {
     before = λ rest vs r all more.
-    let right : AreAllowed us = all-right ts us all in
-    let behind = b.before rest vs r right more in
-    let whole = a.before (t ++ rest) (us ++ vs) (fits rest right r) (all-left ts us all) behind in
-    subst (λ (l : List Token). Has (s ++ t ++ rest) l) (sym (append_assoc ts us vs))
-    (subst (λ (bs : List ℕ). Has bs (ts ++ (us ++ vs))) (sym (append_assoc s t rest)) whole);
+        let right : AreAllowed us = all-right ts us all in
+        let behind = b.before rest vs r right more in
+        let whole = a.before (t ++ rest) (us ++ vs) (fits rest right r) (all-left ts us all) behind in
+        subst (λ (l : List Token). Has (s ++ t ++ rest) l) (sym (append_assoc ts us vs))
+        (subst (λ (bs : List ℕ). Has bs (ts ++ (us ++ vs))) (sym (append_assoc s t rest)) whole);
   }
 
 -- one behind the other, where anything may stand behind the first
@@ -125,14 +125,14 @@ module _ {Q : List ℕ → Type 0} {s : List ℕ} {ts : List Token} where
   pub blank-behind : (gap : List ℕ) → IsGap gap → Writes Q s ts → ((rest : List ℕ) → Q (gap ++ rest)) → Writes Anything (s ++ gap) ts
   blank-behind gap none a fits = record {
     before = λ rest vs r all more.
-    subst (λ (bs : List ℕ). Has bs (ts ++ vs)) (sym (append_assoc s gap rest)) (a.before (gap ++ rest) vs (fits rest) all (none.before rest vs more));
+        subst (λ (bs : List ℕ). Has bs (ts ++ vs)) (sym (append_assoc s gap rest)) (a.before (gap ++ rest) vs (fits rest) all (none.before rest vs more));
   }
 
   -- with blanks before it
   pub blank-before : (gap : List ℕ) → IsGap gap → Writes Q s ts → Writes Q (gap ++ s) ts
   blank-before gap none a = record {
     before = λ rest vs q all more.
-    subst (λ (bs : List ℕ). Has bs (ts ++ vs)) (sym (append_assoc gap s rest)) (none.before (s ++ rest) (ts ++ vs) (a.before rest vs q all more));
+        subst (λ (bs : List ℕ). Has bs (ts ++ vs)) (sym (append_assoc gap s rest)) (none.before (s ++ rest) (ts ++ vs) (a.before rest vs q all more));
   }
 
   pub weaker : {R : List ℕ → Type 0} → ((rest : List ℕ) → R rest → Q rest) → Writes Q s ts → Writes R s ts

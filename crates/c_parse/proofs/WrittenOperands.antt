@@ -60,9 +60,9 @@ part_fits z text tokens e is written ended =
     let tokens-is = fold-roll-Selector Written (List Token) (List Token) expression_tokens_step selector_tokens_step lvalue_tokens_step z in
     record {
       written = subst (λ (bs : List ℕ). Writes Ended bs (selector_tokens (roll-Selector z))) (sym text-is)
-        (subst (λ (ts : List Token). Writes Ended (selector_step (map-Selector Expression Selector Lvalue Text (List ℕ) (List ℕ) expression_text selector_text lvalue_text z)) ts) (sym tokens-is)
-        (subst (λ (bs : List ℕ). Writes Ended bs (selector_tokens_step (map-Selector Expression Selector Lvalue Written (List Token) (List Token) expression_tokens selector_tokens lvalue_tokens z))) (sym e)
-        (subst (λ (ts : List Token). Writes Ended text ts) (sym is) written)));
+          (subst (λ (ts : List Token). Writes Ended (selector_step (map-Selector Expression Selector Lvalue Text (List ℕ) (List ℕ) expression_text selector_text lvalue_text z)) ts) (sym tokens-is)
+          (subst (λ (bs : List ℕ). Writes Ended bs (selector_tokens_step (map-Selector Expression Selector Lvalue Written (List Token) (List Token) expression_tokens selector_tokens lvalue_tokens z))) (sym e)
+          (subst (λ (ts : List Token). Writes Ended text ts) (sym is) written)));
       ended = λ rest. subst (λ (bs : List ℕ). Ended (bs ++ rest)) (sym text-is) (subst (λ (bs : List ℕ). Ended (bs ++ rest)) (sym e) (ended rest));
     }
 

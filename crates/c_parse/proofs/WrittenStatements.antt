@@ -1,5 +1,5 @@
 -- The canonical texts of statements have their canonical tokens.
-use Rattle.std.proofs.Common.{◌≡◌, ℕ, List, [], ◌∷◌, ◌++◌, map, codes, refl, sym, ap, subst, append_assoc}
+use Rattle.std.proofs.Common.{◌≡◌, ℕ, List, [], ◌∷◌, ◌++◌, map, codes, refl, sym, ap, subst}
 use Rattle.std.specs.List.{flat_map}
 use Rattle.hw_text.specs.declared.place.Place.{Place}
 use Rattle.c_tree.specs.declared.integer_type.IntegerType.{IntegerType}
@@ -10,7 +10,6 @@ use Rattle.c_tree.specs.declared.expression.Call.{Call}
 use Rattle.c_tree.specs.declared.expression.Lvalue.{Lvalue}
 use Rattle.c_tree.specs.declared.expression.RightSide.{RightSide}
 use Rattle.c_tree.specs.declared.statement.LocalValue.{LocalValue}
-use Rattle.c_tree.specs.declared.statement.LocalValue.TheVariants as local
 use Rattle.c_tree.specs.declared.statement.Branch.{Branch}
 use Rattle.c_tree.specs.declared.statement.Otherwise.{Otherwise}
 use Rattle.c_tree.specs.declared.statement.Statement.{Statement}
@@ -18,20 +17,19 @@ use Rattle.c_tree.specs.declared.statement.Otherwise.TheFolds.{fold-roll-Stateme
 use Rattle.c_tree.specs.declared.statement.Otherwise.TheOpen.{Statement-F, Branch-F, Otherwise-F}
 use Rattle.c_tree.specs.declared.statement.Otherwise.TheOpen as opened
 use Rattle.c_tree.specs.declared.statement.Otherwise.TheViews.{roll-Statement, roll-Branch, roll-Otherwise}
-use Rattle.c_tree.specs.Statements.{Lines, deeper, all_lines, block_text, local_text, count_start_text, count_end_text, forever_text, else_text, otherwise_step, branch_step, statement_step, statement_text, branch_text, otherwise_text}
-use Rattle.c_parse.specs.PrintedStatements.{signed_tokens, zero_tokens, local_tokens, count_start_tokens, count_end_tokens, forever_tokens, block_tokens, else_tokens, otherwise_tokens_step, branch_tokens_step, statement_tokens_step, statement_tokens, branch_tokens, otherwise_tokens}
+use Rattle.c_tree.specs.Statements.{Lines, deeper, all_lines, block_text, else_text, otherwise_step, branch_step, statement_step, statement_text, branch_text, otherwise_text}
+use Rattle.c_parse.specs.PrintedStatements.{block_tokens, else_tokens, otherwise_tokens_step, branch_tokens_step, statement_tokens_step, statement_tokens, branch_tokens, otherwise_tokens}
 use Rattle.c_parse.specs.declared.keyword.Keyword.TheVariants as keyword
 use Rattle.c_parse.specs.declared.mark.Mark.TheVariants as mark
 use Rattle.c_parse.specs.declared.token.Token.{Token}
 use Rattle.c_parse.specs.declared.token.Token.TheVariants as token
 use Rattle.c_parse.proofs.ExpressionInduction.{OfEach}
-use Rattle.c_parse.proofs.PrintedPieces.{name, literal, word, word_space, integer, closed, mark_space}
+use Rattle.c_parse.proofs.PrintedPieces.{name, word, word_space, closed}
 use Rattle.c_parse.proofs.StatementInduction.{Cases, of_each_statement}
-use Rattle.c_parse.proofs.WordFronts.{Ended}
 use Rattle.c_parse.proofs.Written.{Writes, Anything, IsGap, both, next, blank-behind, blank-before, nothing, known-as, joined, space, newline}
-use Rattle.c_parse.proofs.WrittenCalls.{call, right_side, type_name, signed}
+use Rattle.c_parse.proofs.WrittenCalls.{call, right_side, type_name}
 use Rattle.c_parse.proofs.WrittenExpressions.{lvalue}
-use Rattle.c_parse.proofs.WrittenOperands.{open_ended}
+use Rattle.c_parse.proofs.WrittenHeads.{assign, value_of, local-ended, semicolon, count-start, count-end, forever-head}
 
 -- for each margin, a text with its tokens
 pub record Lined (text : Lines) (tokens : List Token) : Type 0 where
@@ -70,31 +68,11 @@ otherwise-lined z lined =
     (fold-roll-Otherwise Lines Lines Lines otherwise_step statement_step branch_step z)
     (fold-roll-Otherwise (List Token) (List Token) (List Token) otherwise_tokens_step statement_tokens_step branch_tokens_step z) lined
 
-pub assign : Writes Anything (codes " = ") (token.Mark mark.Assign ∷ [])
-assign = blank-before (codes " ") space (mark_space mark.Assign)
-
-pub zero : Writes Anything (codes " = {0}") zero_tokens
-zero = next assign (both (next (closed mark.OpenBrace refl) (literal (codes "0"))) (closed mark.CloseBrace refl) (λ rest allowed any. refl))
-
-value_of : (v : LocalValue) → Writes Ended (local_text v) (local_tokens v)
-value_of (local.ZeroArray l) =
-    open_ended (both (next (closed mark.OpenBracket refl) (literal l.numeral)) (next (closed mark.CloseBracket refl) zero) (λ rest allowed any. refl))
-value_of local.Zero = open_ended zero
-value_of (local.Given value) = next assign (right_side value)
-
-local-ended : (v : LocalValue) (rest : List ℕ) → Ended (local_text v ++ rest)
-local-ended (local.ZeroArray l) rest = refl
-local-ended local.Zero rest = refl
-local-ended (local.Given value) rest = refl
-
-pub semicolon : Writes Anything (codes ";") (token.Mark mark.Semicolon ∷ [])
-semicolon = closed mark.Semicolon refl
-
 local-lined : (class : TypeName) (x : Named) (value : LocalValue) → StatementLined (roll-Statement (opened.Local class x value))
 local-lined class x value = statement-lined (opened.Local class x value) (record {
   written = λ margin gap.
-    both (both (next (blank-behind (codes " ") space (type_name class) (λ rest. refl)) (name x.name)) (value_of value) (λ rest allowed ended. local-ended value rest))
-    semicolon (λ rest allowed any. refl);
+      both (both (next (blank-behind (codes " ") space (type_name class) (λ rest. refl)) (name x.name)) (value_of value) (λ rest allowed ended. local-ended value rest))
+      semicolon (λ rest allowed any. refl);
 })
 
 assign-lined : (target : Lvalue) (value : RightSide) → StatementLined (roll-Statement (opened.Assign target value))
@@ -119,7 +97,7 @@ lines-by (x ∷ xs) each margin gap =
 block : (body : List Statement) → OfEach StatementLined body → (margin : List ℕ) → IsGap margin → Writes Anything (block_text (map statement_text body) margin) (block_tokens (map statement_tokens body))
 block body each margin gap =
     let opening : Writes Anything (codes " {" ++ 10 ∷ []) (token.Mark mark.OpenBrace ∷ []) =
-        blank-behind (10 ∷ []) newline (blank-before (codes " ") space (closed mark.OpenBrace refl)) (λ rest. tt) in
+    blank-behind (10 ∷ []) newline (blank-before (codes " ") space (closed mark.OpenBrace refl)) (λ rest. tt) in
     let inner = next opening (lines-by body each (deeper margin) (joined margin (codes "    ") gap four_spaces)) in
     next (blank-behind margin gap inner (λ rest. tt)) (closed mark.CloseBrace refl)
 
@@ -133,35 +111,10 @@ choice-lined first others otherwise a b c = statement-lined (opened.If first oth
   written = λ margin gap. next (next (a.written margin gap) (elses others b margin gap)) (c.written margin gap);
 })
 
-for_parenthesis : Writes Anything (codes "for (") (token.Keyword keyword.For ∷ token.Mark mark.OpenParenthesis ∷ [])
-for_parenthesis = next (word_space keyword.For) (closed mark.OpenParenthesis refl)
-
-less : Writes Anything (codes " < ") (token.Mark mark.Less ∷ [])
-less = blank-before (codes " ") space (mark_space mark.Less)
-
-count-start : (class : IntegerType) (x : Named) (from : SignedLiteral) → Writes Anything (count_start_text class x from) (count_start_tokens class x from)
-count-start class x from =
-    let begun = both (next (next for_parenthesis (blank-behind (codes " ") space (integer class) (λ rest. refl))) (name x.name)) assign (λ rest allowed any. refl) in
-    both (next begun (signed from)) (mark_space mark.Semicolon) (λ rest allowed any. refl)
-
-end-tokens : (below : List Token) (x l s i c : Token) → (x ∷ l ∷ below) ++ s ∷ x ∷ i ∷ c ∷ [] ≡ (x ∷ l ∷ below) ++ s ∷ [] ++ x ∷ [] ++ (i ∷ c ∷ [])
-end-tokens below x l s i c = simp append_assoc
-
-count-end : (x : Named) (below : SignedLiteral) → Writes Anything (count_end_text x below) (count_end_tokens x below)
-count-end x below =
-    let compared = next (both (name x.name) less (λ rest allowed any. refl)) (signed below) in
-    let stepped = next (both compared (mark_space mark.Semicolon) (λ rest allowed any. refl)) (name x.name) in
-    known-as refl (end-tokens (signed_tokens below) (token.Name x.name) (token.Mark mark.Less) (token.Mark mark.Semicolon) (token.Mark mark.Increment) (token.Mark mark.CloseParenthesis))
-    (both stepped (next (closed mark.Increment refl) (closed mark.CloseParenthesis refl)) (λ rest allowed any. refl))
-
 count-lined : (class : IntegerType) (x : Named) (from : SignedLiteral) (at : Place) (below : SignedLiteral) (body : List Statement) → OfEach StatementLined body → StatementLined (roll-Statement (opened.Count class x from at below body))
 count-lined class x from at below body each = statement-lined (opened.Count class x from at below body) (record {
   written = λ margin gap. next (next (count-start class x from) (count-end x below)) (block body each margin gap);
 })
-
-forever-head : Writes Anything forever_text forever_tokens
-unfolding forever_text
-forever-head = next (next (next for_parenthesis semicolon) semicolon) (closed mark.CloseParenthesis refl)
 
 forever-lined : (body : List Statement) → OfEach StatementLined body → StatementLined (roll-Statement (opened.Forever body))
 forever-lined body each = statement-lined (opened.Forever body) (record { written = λ margin gap. next forever-head (block body each margin gap) })
@@ -169,8 +122,8 @@ forever-lined body each = statement-lined (opened.Forever body) (record { writte
 branch_lined : (condition : RightSide) (body : List Statement) → OfEach StatementLined body → BranchLined (roll-Branch (record { condition = condition; body = body }))
 branch_lined condition body each = branch-lined (record { condition = condition; body = body }) (record {
   written = λ margin gap.
-    next (both (next (next (word_space keyword.If) (closed mark.OpenParenthesis refl)) (right_side condition)) (closed mark.CloseParenthesis refl) (λ rest allowed any. refl))
-    (block body each margin gap);
+      next (both (next (next (word_space keyword.If) (closed mark.OpenParenthesis refl)) (right_side condition)) (closed mark.CloseParenthesis refl) (λ rest allowed any. refl))
+      (block body each margin gap);
 })
 
 nothing-lined : OtherwiseLined (roll-Otherwise opened.Nothing)

@@ -1,5 +1,5 @@
 -- The units that the grammar of users has texts of: those without what only the full grammar has (docs/formats/c.md).
-use Rattle.std.specs.Prelude.{Bool, true, false, ◌&&◌, not, Option, Some, None}
+use Rattle.std.specs.Prelude.{nat_le, Bool, true, false, ◌&&◌, not, length, Option, Some, None}
 use Rattle.std.specs.List.{list_all}
 use Rattle.c_tree.specs.declared.expression.Base.{Base}
 use Rattle.c_tree.specs.declared.expression.Base.TheVariants as base
@@ -75,12 +75,12 @@ is_user_local (local.ZeroArray l) = true
 is_user_local local.Zero = true
 is_user_local (local.Given value) = is_user_right value
 
--- no loop that `break` ends
+-- no loop that `break` ends, and at most 64 links of `else if`
 abbrev pub is_user_statement_step : Statement-F Bool Bool Bool → Bool
 is_user_statement_step (s.Local kind x value) = is_user_local value
 is_user_statement_step (s.Assign target value) = is_user_lvalue target && is_user_right value
 is_user_statement_step (s.Call c) = is_user_call c
-is_user_statement_step (s.If first others otherwise) = first && (list_all (λ b. b) others && otherwise)
+is_user_statement_step (s.If first others otherwise) = first && (list_all (λ b. b) others && (otherwise && nat_le (length others) 64))
 is_user_statement_step (s.Count kind x from at below body) = list_all (λ b. b) body
 is_user_statement_step (s.Forever body) = false
 is_user_statement_step s.Break = false
