@@ -1,3 +1,5 @@
+pub mod AllowedForms
+pub mod Allowing
 pub mod BothParts
 pub mod BoundForms
 pub mod Choices
@@ -22,6 +24,7 @@ pub mod OtherNames
 pub mod Phrases
 pub mod Pieces
 pub mod PortForms
+pub mod PrintedForms
 pub mod PrintedLaw
 pub mod Respelled
 pub mod RespelledContracts

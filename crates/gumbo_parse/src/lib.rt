@@ -26,6 +26,8 @@ mod operators;
 mod parse;
 mod ports;
 mod print;
+mod print_class;
+mod print_pieces;
 mod printed;
 mod quantification;
 mod refusals;
