@@ -1,9 +1,14 @@
 //! From the text of an annex to its contract, or to the first failure.
 
 ghost use Rattle.std.specs.Prelude.{◌≡◌, ◌<◌, ℕ, slice_get, Some, None, IfOk};
-ghost use Rattle.gumbo_parse.specs.Annex.{SpellsContract};
+ghost use Rattle.gumbo_parse.specs.declared.contract.Contract.{Contract};
+ghost use Rattle.gumbo_parse.specs.Allowed.{AreAllowed};
+ghost use Rattle.gumbo_parse.specs.Annex.{SpellsContract, annex_text};
+ghost use Rattle.gumbo_parse.specs.ContractTokens.{contract_tokens};
 ghost use Rattle.gumbo_parse.specs.Flaws.{flaw_at};
+ghost use Rattle.gumbo_parse.specs.Printed.{IsWithinLimits};
 ghost use Rattle.gumbo_parse.specs.Refusals.{IsAccepted, IsRejected, IfRefused, IsSound, FailsAt, unexpected_there, flawed};
+ghost use Rattle.gumbo_parse.specs.Unplaced.{SameContract};
 
 use crate::contract::Contract;
 use crate::flaw::{Flawed, first_flawed};
@@ -14,10 +19,12 @@ use crate::whole::{Whole, read_whole};
 use hw_text::{Fault, Lexed, NoMemory, Place, Refusal};
 use std::alloc::Global;
 
-/// The contract of a text that begins at a place, or why it is none.
+/// The contract of a text that begins at a place, or why it is none. What is printed of a contract is
+/// read as the same contract, but for places.
 pub fn parse_annex(alloc: Global, bytes: &[u8], at: Place) -> Result<Contract, Fault>
     ensures accepted { IfOk result (λ contract. IsAccepted SpellsContract at bytes.now contract) }
     ensures rejected { IfRefused result (λ refusal. IsRejected SpellsContract at bytes.now refusal) }
+    ensures printed { (c : Contract) → bytes.now ≡ annex_text c → AreAllowed (contract_tokens c) → IsWithinLimits c → IfOk result (SameContract c) × IfRefused result (λ refusal. ⊥) }
 {
     let lexed = read_tokens(alloc, bytes, at)?;
     read_lexed(alloc, &lexed)
