@@ -7,7 +7,6 @@ pub mod ClassForms
 pub mod ClauseForms
 pub mod ExpressionInduction
 pub mod ExpressionTexts
-pub mod Failures
 pub mod Flawless
 pub mod InnerTokens
 pub mod LeafForms
@@ -43,8 +42,7 @@ pub mod Steps
 pub mod SymbolTokens
 pub mod TokensOfExpressions
 pub mod UnplacedExpressions
-pub mod Verdicts
-pub mod Wholes
+pub mod WholeContracts
 pub mod WordTokens
 pub mod Written
 pub mod WrittenContracts

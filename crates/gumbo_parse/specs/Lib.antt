@@ -13,8 +13,8 @@ pub mod Operators
 pub mod Printed
 pub mod Printing
 pub mod Refusals
+pub mod Rules
 pub mod Tokens
 pub mod Unplaced
 pub mod Values
-pub mod Whole
 pub mod Words
