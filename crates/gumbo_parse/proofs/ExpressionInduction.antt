@@ -4,7 +4,7 @@ use Rattle.hw_text.specs.declared.place.Place.{Place}
 use Rattle.gumbo_parse.specs.declared.expression.Bound.{Bound}
 use Rattle.gumbo_parse.specs.declared.expression.Named.{Named}
 use Rattle.gumbo_parse.specs.declared.expression.Expression.{Expression}
-use Rattle.gumbo_parse.specs.declared.expression.Expression.TheFolds.{ind-Expression, ind-Selector, map-Expression, map-Selector}
+use Rattle.gumbo_parse.specs.declared.expression.Expression.TheFolds.{ind-Expression, map-Expression, map-Selector}
 use Rattle.gumbo_parse.specs.declared.expression.Expression.TheOpen.{Expression-F, Selector-F}
 use Rattle.gumbo_parse.specs.declared.expression.Expression.TheOpen as opened
 use Rattle.gumbo_parse.specs.declared.expression.Expression.TheVariants as expression

@@ -13,7 +13,7 @@ use Rattle.gumbo_parse.specs.declared.operator.UnaryOperator.{UnaryOperator}
 use Rattle.gumbo_parse.specs.declared.operator.BinaryOperator.{BinaryOperator}
 use Rattle.gumbo_parse.specs.declared.operator.Quantifier.{Quantifier}
 use Rattle.gumbo_parse.specs.declared.operator.PortTest.{PortTest}
-use Rattle.gumbo_parse.specs.Printing.{Text, joined, expression_step, selector_step, expression_text, selector_text}
+use Rattle.gumbo_parse.specs.Printing.{Text, expression_step, selector_step, expression_text, selector_text}
 
 pub text-Number : (at : Place) (v : ℕ) → expression_text (expression.Number at v) ≡ expression_step (opened.Number at v)
 text-Number at v = ap expression_text (sym (expression.rolls-Number at v)) ∙ fold-roll-Expression Text (List ℕ) expression_step selector_step (opened.Number at v)

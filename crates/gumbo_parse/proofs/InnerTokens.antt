@@ -2,13 +2,11 @@
 use Rattle.std.proofs.Common.{◌≡◌, ℕ, ◌+◌, Bool, true, false, nat_lt, if◌then◌else◌, List, [], ◌∷◌, ◌++◌, map, refl, sym, subst}
 use Rattle.std.proofs.lemmas.Bool.{false≢true}
 use Rattle.std.specs.List.{flat_map}
-use Rattle.hw_text.specs.declared.place.Place.{Place}
 use Rattle.gumbo_parse.specs.declared.expression.Bound.{Bound}
 use Rattle.gumbo_parse.specs.declared.expression.Expression.{Expression}
 use Rattle.gumbo_parse.specs.declared.expression.Expression.TheVariants as expression
 use Rattle.gumbo_parse.specs.declared.expression.Named.{Named}
 use Rattle.gumbo_parse.specs.declared.expression.Selector.{Selector}
-use Rattle.gumbo_parse.specs.declared.expression.Selector.TheVariants as selector
 use Rattle.gumbo_parse.specs.declared.flaw.Spot.TheVariants as spot
 use Rattle.gumbo_parse.specs.declared.mark.Mark.TheVariants as mark
 use Rattle.gumbo_parse.specs.declared.operator.BinaryOperator.{BinaryOperator}
@@ -22,7 +20,7 @@ use Rattle.gumbo_parse.specs.declared.operator.UnaryOperator.TheVariants as unar
 use Rattle.gumbo_parse.specs.declared.token.Token.{Token}
 use Rattle.gumbo_parse.specs.declared.token.Token.TheVariants as token
 use Rattle.gumbo_parse.specs.declared.word.Word.TheVariants as word
-use Rattle.gumbo_parse.specs.ExpressionTokens.{Written, in_parentheses, unary_token, binary_token, truth_word, sign_tokens, bound_tokens, port_tokens, quantification_tokens, expression_tokens_step, selector_tokens_step, expression_tokens, selector_tokens}
+use Rattle.gumbo_parse.specs.ExpressionTokens.{Written, in_parentheses, unary_token, binary_token, truth_word, sign_tokens, bound_tokens, port_tokens, quantification_tokens, expression_tokens, selector_tokens}
 use Rattle.gumbo_parse.specs.Flaws.{spot_behind}
 use Rattle.gumbo_parse.specs.Operators.{unary_level, binary_level, left_level, right_level, test_word}
 use Rattle.gumbo_parse.proofs.ExpressionInduction.{OfEach, of_each_expression}

@@ -4,7 +4,6 @@ use Rattle.std.proofs.lemmas.List.Elements.{All-head}
 use Rattle.std.specs.Fmt.{signed_decimal}
 use Rattle.gumbo_parse.specs.declared.expression.Bound.{Bound}
 use Rattle.gumbo_parse.specs.declared.expression.Named.{Named}
-use Rattle.gumbo_parse.specs.declared.mark.Mark.{Mark}
 use Rattle.gumbo_parse.specs.declared.mark.Mark.TheVariants as mark
 use Rattle.gumbo_parse.specs.declared.operator.Quantifier.{Quantifier}
 use Rattle.gumbo_parse.specs.declared.token.Token.TheVariants as token

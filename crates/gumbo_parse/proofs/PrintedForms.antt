@@ -1,5 +1,5 @@
 -- The texts of expressions, printed piece by piece.
-use Rattle.std.proofs.Common.{◌≡◌, ℕ, Bool, false, nat_lt, List, [], ◌++◌, map, codes, Result, OnOk, sym, ap, ◌∙◌, append_assoc}
+use Rattle.std.proofs.Common.{◌≡◌, ℕ, Bool, false, nat_lt, List, ◌++◌, map, codes, Result, OnOk, sym, ap, ◌∙◌, append_assoc}
 use Rattle.hw_text.specs.declared.place.Place.{Place}
 use Rattle.gumbo_parse.specs.declared.expression.Bound.{Bound}
 use Rattle.gumbo_parse.specs.declared.expression.Expression.{Expression}

@@ -1,5 +1,5 @@
 -- What is printed of a contract is read as the same contract but for places.
-use Rattle.std.proofs.Common.{◌≡◌, ◌≤◌, ℕ, zero, suc, List, [], ◌∷◌, take, slice_get, option_and_then, Some, None, Result, Ok, Err, IfOk, refl, sym, subst}
+use Rattle.std.proofs.Common.{◌≡◌, ◌≤◌, ℕ, zero, suc, List, [], ◌∷◌, take, slice_get, option_and_then, None, Result, Ok, Err, IfOk, refl, sym, subst}
 use Rattle.std.proofs.lemmas.Bool.{le-ltb}
 use Rattle.hw_text.specs.declared.fault.Fault.{Fault}
 use Rattle.hw_text.specs.declared.fault.Fault.TheVariants as fault

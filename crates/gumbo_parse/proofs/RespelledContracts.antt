@@ -1,9 +1,7 @@
 -- The canonical tokens of contracts spell them.
-use Rattle.std.proofs.Common.{◌≡◌, inl, inr, ℕ, List, [], ◌∷◌, ◌++◌, map, codes, Option, Some, None, refl, ap, append_assoc}
+use Rattle.std.proofs.Common.{◌≡◌, inl, inr, ℕ, List, [], ◌∷◌, map, codes, Option, Some, None, refl, ap}
 use Rattle.std.specs.List.{flat_map}
 use Rattle.std.specs.Option.{option_map}
-use Rattle.std.specs.Prelude.{⊤}
-use Rattle.hw_text.specs.declared.place.Place.{Place}
 use Rattle.hw_text.specs.Language.{One, ◌⋅◌, Maybe, Each}
 use Rattle.gumbo_parse.specs.declared.class.BaseType.{BaseType}
 use Rattle.gumbo_parse.specs.declared.class.BaseType.TheVariants.{Boolean}
@@ -17,20 +15,19 @@ use Rattle.gumbo_parse.specs.declared.contract.ClauseKind.TheVariants.{Assume, G
 use Rattle.gumbo_parse.specs.declared.contract.Compute.{Compute}
 use Rattle.gumbo_parse.specs.declared.contract.Contract.{Contract}
 use Rattle.gumbo_parse.specs.declared.contract.Handler.{Handler}
-use Rattle.gumbo_parse.specs.declared.expression.Named.{Named}
 use Rattle.gumbo_parse.specs.declared.mark.Mark.TheVariants as mark
 use Rattle.gumbo_parse.specs.declared.token.Token.{Token}
 use Rattle.gumbo_parse.specs.declared.token.Token.TheVariants as token
 use Rattle.gumbo_parse.specs.declared.word.Word.{Word}
 use Rattle.gumbo_parse.specs.declared.word.Word.TheVariants as word
-use Rattle.gumbo_parse.specs.Annex.{clause_word, kinds, clause_of, SpellsClause, or_none, all_of, SpellsSome, SpellsSection, SpellsState, SpellsIntegration, initial, SpellsInitialize, handler_of, SpellsHandler, compute_of, SpellsCompute, contract_of, SpellsContract}
-use Rattle.gumbo_parse.specs.Classes.{base_class, SpellsBase, name_behind, SpellsStep, SpellsImplementation, model_class, SpellsModel, SpellsClass, variable_of, SpellsVariable}
+use Rattle.gumbo_parse.specs.Annex.{clause_word, kinds, clause_of, SpellsClause, or_none, all_of, SpellsSome, SpellsSection, initial, handler_of, SpellsHandler, compute_of, SpellsCompute, contract_of, SpellsContract}
+use Rattle.gumbo_parse.specs.Classes.{base_class, name_behind, SpellsStep, SpellsImplementation, model_class, SpellsClass, variable_of, SpellsVariable}
 use Rattle.gumbo_parse.specs.ClassNames.{other_of}
 use Rattle.gumbo_parse.specs.ContractTokens.{step_tokens, implementation_tokens, class_tokens, variable_tokens, description_tokens, clause_tokens, section_tokens, handler_tokens, compute_tokens, contract_tokens}
 use Rattle.gumbo_parse.specs.ExpressionTokens.{expression_tokens}
-use Rattle.gumbo_parse.specs.Grammar.{Keyword, Name}
-use Rattle.gumbo_parse.specs.Unplaced.{unplaced_named, unplaced_first, unplaced_class, unplaced_variable, unplaced_clause, unplaced_handler, unplaced_compute, unplaced_contract}
-use Rattle.gumbo_parse.specs.Values.{Tokens, start, place_of, one_listed, name_of, text_of, base_of, base_name}
+use Rattle.gumbo_parse.specs.Grammar.{Keyword}
+use Rattle.gumbo_parse.specs.Unplaced.{unplaced_first, unplaced_class, unplaced_variable, unplaced_clause, unplaced_handler, unplaced_compute, unplaced_contract}
+use Rattle.gumbo_parse.specs.Values.{Tokens, start, place_of, one_listed, text_of, base_of, base_name}
 use Rattle.gumbo_parse.proofs.OtherNames.{other_name_there}
 use Rattle.gumbo_parse.proofs.Respelled.{Spelled, one, then, made, there, not-there, there-plain, not-there-plain, each, each-plain, onto, told_as}
 use Rattle.gumbo_parse.proofs.RespelledExpressions.{respelled}

@@ -1,9 +1,9 @@
 -- The canonical tokens of operands spell them.
-use Rattle.std.proofs.Common.{◌≡◌, inl, inr, ℕ, Bool, true, false, List, [], ◌∷◌, ◌++◌, map, Option, Some, None, refl, sym, ap, ◌∙◌, append_assoc}
+use Rattle.std.proofs.Common.{◌≡◌, inl, inr, ℕ, Bool, true, false, List, [], ◌∷◌, ◌++◌, map, Option, Some, None, refl, sym, ap, ◌∙◌}
 use Rattle.std.specs.List.{flat_map}
 use Rattle.std.specs.Option.{option_map}
 use Rattle.hw_text.specs.declared.place.Place.{Place}
-use Rattle.hw_text.specs.Language.{One, ◌⋅◌, Maybe, Made}
+use Rattle.hw_text.specs.Language.{One}
 use Rattle.gumbo_parse.specs.declared.expression.Bound.{Bound}
 use Rattle.gumbo_parse.specs.declared.expression.Expression.{Expression}
 use Rattle.gumbo_parse.specs.declared.expression.Expression.TheVariants as expression
@@ -15,21 +15,20 @@ use Rattle.gumbo_parse.specs.declared.mark.Mark.TheVariants as mark
 use Rattle.gumbo_parse.specs.declared.operator.PortTest.{PortTest}
 use Rattle.gumbo_parse.specs.declared.operator.PortTest.TheVariants as port_test
 use Rattle.gumbo_parse.specs.declared.operator.Quantifier.{Quantifier}
-use Rattle.gumbo_parse.specs.declared.quantification.Quantification.{Quantification}
 use Rattle.gumbo_parse.specs.declared.token.Token.{Token}
 use Rattle.gumbo_parse.specs.declared.token.Token.TheVariants as token
 use Rattle.gumbo_parse.specs.declared.word.Word.TheVariants as word
-use Rattle.gumbo_parse.specs.ExpressionTokens.{Written, port_tokens, truth_word, in_parentheses, quantification_tokens, expression_tokens, selector_tokens}
+use Rattle.gumbo_parse.specs.ExpressionTokens.{Written, port_tokens, truth_word, in_parentheses, expression_tokens, selector_tokens}
 use Rattle.gumbo_parse.specs.Grammar.{Sign, Name, Spells, SpellsOperand, SpellsStarted, SpellsSent, SpellsGroup, SpellsParts, SpellsPart, SpellsIn, SpellsAsked, SpellsField, SpellsQuantification, truths, tests, number_at, truth_at, test_of, sent_of, field_of, quantified_of, value_of, before_of, must_send_of, grouped_of, index_of, start_of, SpellsNumber, SpellsTruth, SpellsTest, SpellsPort, SpellsParenthesised, SpellsIndex}
 use Rattle.gumbo_parse.specs.Grammar as grammar
 use Rattle.gumbo_parse.specs.Operators.{test_word}
 use Rattle.gumbo_parse.specs.Unplaced.{unplaced_named, unplaced_expression, unplaced_part}
-use Rattle.gumbo_parse.specs.Values.{Tokens, start, one_listed, number_of}
+use Rattle.gumbo_parse.specs.Values.{Tokens, start, one_listed}
 use Rattle.gumbo_parse.proofs.ExpressionInduction.{OfEach}
 use Rattle.gumbo_parse.proofs.LevelsClimbed.{level_at, operand_at}
 use Rattle.gumbo_parse.proofs.OperandForms.{shut}
-use Rattle.gumbo_parse.proofs.Respelled.{Spelled, one, then, made, there, not-there, onto, told_as, split, no-tokens}
-use Rattle.gumbo_parse.proofs.RespelledPieces.{at_start, sign, named, number, port, before_entry, asked, bare_asked, heading, heading_of, unplaced_heading}
+use Rattle.gumbo_parse.proofs.Respelled.{Spelled, one, then, made, onto, told_as, split, no-tokens}
+use Rattle.gumbo_parse.proofs.RespelledPieces.{at_start, sign, named, number, port, before_entry, asked, bare_asked, heading}
 use Rattle.gumbo_parse.proofs.TokensOfExpressions.{tokens-Number, tokens-Truth, tokens-Value, tokens-Before, tokens-Test, tokens-MustSend, tokens-Quantified, tokens-Field, tokens-Index}
 use Rattle.gumbo_parse.proofs.UnplacedExpressions.{unplaced-Number, unplaced-Truth, unplaced-Value, unplaced-Before, unplaced-Test, unplaced-MustSend, unplaced-Quantified, unplaced-Field, unplaced-Index}
 

@@ -1,5 +1,5 @@
 -- Texts that are written piece by piece: which tokens the bytes of a piece are, whatever is written behind it.
-use Rattle.std.proofs.Common.{◌≡◌, ℕ, List, [], ◌∷◌, ◌++◌, map, refl, sym, ap, ◌∙◌, subst, append_assoc}
+use Rattle.std.proofs.Common.{◌≡◌, ℕ, List, [], ◌∷◌, ◌++◌, map, refl, sym, ap, subst, append_assoc}
 use Rattle.std.proofs.lemmas.List.Elements.{All-head}
 use Rattle.std.specs.List.{flat_map}
 use Rattle.std.specs.Prelude.{⊤}
@@ -10,7 +10,7 @@ use Rattle.hw_text.specs.declared.place.Place.{Place}
 use Rattle.hw_text.specs.declared.placed.Placed.{Placed}
 use Rattle.gumbo_parse.specs.declared.token.Token.{Token}
 use Rattle.gumbo_parse.specs.Allowed.{IsAllowed, AreAllowed}
-use Rattle.gumbo_parse.specs.Lexed.{HasTokensAt, HasTokens}
+use Rattle.gumbo_parse.specs.Lexed.{HasTokens}
 use Rattle.gumbo_parse.specs.Tokens.{token_at}
 use Rattle.gumbo_parse.proofs.BothParts.{all-left, all-right}
 use Rattle.gumbo_parse.proofs.OneReading.{same-tokens}

@@ -24,7 +24,7 @@ use Rattle.gumbo_parse.specs.Printing.{Text, grouped, opening, closing, sign_tex
 use Rattle.gumbo_parse.proofs.ExpressionInduction.{of_each_expression}
 use Rattle.gumbo_parse.proofs.ExpressionTexts.{text-Unary, text-Binary, text-Quantified, text-Field, text-Index}
 use Rattle.gumbo_parse.proofs.NumberTokens.{NoSign}
-use Rattle.gumbo_parse.proofs.Pieces.{Ended, Spaced, name, a_word, number, closed, any_mark, minus}
+use Rattle.gumbo_parse.proofs.Pieces.{Ended, Spaced, a_word, closed, any_mark, minus}
 use Rattle.gumbo_parse.proofs.Phrases.{behind_dot, quantification}
 use Rattle.gumbo_parse.proofs.TokensOfExpressions.{tokens-Unary, tokens-Binary, tokens-Quantified, tokens-Field, tokens-Index}
 use Rattle.gumbo_parse.proofs.Written.{Writes, both, blank-behind, blank-before, weaker}

@@ -21,7 +21,7 @@ use Rattle.gumbo_parse.specs.Printing.{Text, joined, truth_text, expression_step
 use Rattle.gumbo_parse.proofs.ExpressionInduction.{OfEach}
 use Rattle.gumbo_parse.proofs.ExpressionTexts.{text-Number, text-Truth, text-Value, text-Before, text-Test, text-MustSend}
 use Rattle.gumbo_parse.proofs.NumberTokens.{NoSign, number-no-sign}
-use Rattle.gumbo_parse.proofs.Pieces.{Ended, name, a_word, number, closed, minus, name-no-sign}
+use Rattle.gumbo_parse.proofs.Pieces.{Ended, name, a_word, number, closed, name-no-sign}
 use Rattle.gumbo_parse.proofs.Phrases.{port}
 use Rattle.gumbo_parse.proofs.TokensOfExpressions.{tokens-Number, tokens-Truth, tokens-Value, tokens-Before, tokens-Test, tokens-MustSend}
 use Rattle.gumbo_parse.proofs.Written.{Writes, Anything, both, blank-behind, weaker, nothing}

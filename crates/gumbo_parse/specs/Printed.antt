@@ -1,7 +1,6 @@
 -- Which contracts are printed within the limits (this project's own; docs/formats/contracts.md).
 use Rattle.std.specs.Prelude.{◌≤◌, ℕ, List, [], ◌∷◌, ◌++◌, map, length, take, Option, Some, None}
 use Rattle.std.specs.List.{All, flat_map}
-use Rattle.hw_text.specs.declared.placed.Placed.{Placed}
 use Rattle.gumbo_parse.specs.declared.contract.Clause.{Clause}
 use Rattle.gumbo_parse.specs.declared.contract.Handler.{Handler}
 use Rattle.gumbo_parse.specs.declared.contract.Compute.{Compute}

@@ -1,6 +1,5 @@
 -- Which texts are contracts, and why others are refused: for the first failure in the text (this project's own; docs/formats/contracts.md).
 use Rattle.std.specs.Prelude.{◌≡◌, ◌<◌, ◌+◌, ◌-◌, ◌⊎◌, ℕ, pos, Bool, true, false, if◌then◌else◌, List, [], ◌∷◌, take, drop, slice_get, codes, Option, Some, None, Result, Ok, Err}
-use Rattle.hw_text.specs.declared.code.Code.{Code}
 use Rattle.hw_text.specs.declared.code.Code.TheVariants as code
 use Rattle.hw_text.specs.declared.fault.Fault.{Fault}
 use Rattle.hw_text.specs.declared.fault.Fault.TheVariants as fault

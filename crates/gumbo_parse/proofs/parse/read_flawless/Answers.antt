@@ -1,4 +1,4 @@
-use Rattle.std.proofs.Common.{◌≡◌, ◌∙◌, refl, sym, ap, subst, ℕ, List, [], length, arith}
+use Rattle.std.proofs.Common.{sym, ap, subst, ℕ, List, length}
 use Rattle.gumbo_parse.specs.Annex.{SpellsContract}
 use Rattle.gumbo_parse.specs.Refusals.{FailsAt}
 use Rattle.gumbo_parse.proofs.Verdicts.{sound-stuck, text-stopped, empty}
