@@ -1,4 +1,5 @@
-pub mod AllowedForms
+pub mod AllowedContracts
+pub mod AllowedExpressions
 pub mod Allowing
 pub mod BothParts
 pub mod BoundForms

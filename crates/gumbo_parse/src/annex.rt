@@ -12,6 +12,7 @@ ghost use Rattle.gumbo_parse.specs.Lexed.{HasTokens};
 use crate::class::Variable;
 use crate::contract::{Clause, Compute, Contract, Handler};
 use crate::description::Description;
+use crate::print_class::print_variables;
 use crate::word::Word;
 use hw_text::{NoMemory, TextBuf};
 use std::alloc::Global;
@@ -55,16 +56,6 @@ fn print_state(out: &mut TextBuf, variables: &[Variable]) -> Result<(), NoMemory
     }
     print_line(out, Word::State.spelling())?;
     print_variables(out, variables)
-}
-
-fn print_variables(out: &mut TextBuf, variables: &[Variable]) -> Result<(), NoMemory>
-    ensures text { OnOk result (out.new ≡ out.old ++ flat_map variable_text variables.now) }
-    ensures allowed { OnOk result (AreAllowed (flat_map variable_tokens variables.now)) }
-{
-    for variable in variables {
-        variable.print(out)?;
-    }
-    Ok(())
 }
 
 fn print_section(out: &mut TextBuf, word: Word, clauses: &[Clause]) -> Result<(), NoMemory>

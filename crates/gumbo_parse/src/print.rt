@@ -40,13 +40,11 @@ impl Expression {
                 out.word(b")")
             }
             Expression::Unary(_, operator, operand) => {
-                let grouped = operator.level() < wanted;
-                open(out, grouped)?;
+                let level = operator.level();
+                open(out, level < wanted)?;
                 print_sign(out, *operator, after_minus)?;
-                operand
-                    .get()
-                    .print(out, operator.level(), is_minus(*operator))?;
-                close(out, grouped)
+                operand.get().print(out, level, is_minus(*operator))?;
+                close(out, level < wanted)
             }
             Expression::Binary(_, operator, left, right) => {
                 let grouped = operator.level() < wanted;

@@ -11,6 +11,16 @@ use crate::class::{Class, Variable};
 use crate::identifier::Identifier;
 use hw_text::{NoMemory, TextBuf};
 
+pub fn print_variables(out: &mut TextBuf, variables: &[Variable]) -> Result<(), NoMemory>
+    ensures text { OnOk result (out.new ≡ out.old ++ flat_map variable_text variables.now) }
+    ensures allowed { OnOk result (AreAllowed (flat_map variable_tokens variables.now)) }
+{
+    for variable in variables {
+        variable.print(out)?;
+    }
+    Ok(())
+}
+
 impl Variable {
     pub fn print(&self, out: &mut TextBuf) -> Result<(), NoMemory>
         ensures text { OnOk result (out.new ≡ out.old ++ variable_text self.now) }

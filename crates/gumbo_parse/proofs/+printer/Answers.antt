@@ -1,5 +1,5 @@
 use Rattle.gumbo_parse.proofs.Allowing.{name_allowed}
-use Rattle.gumbo_parse.proofs.AllowedForms.{value_allowed, before_allowed, must_send_allowed, unary_allowed, binary_allowed, quantified_allowed, index_allowed}
+use Rattle.gumbo_parse.proofs.AllowedExpressions.{value_allowed, before_allowed, must_send_allowed, unary_allowed, binary_allowed, quantified_allowed, index_allowed}
 use Rattle.gumbo_parse.proofs.PrintedForms.{before_text, must_send_text, quantified_text, unary_text, binary_text_printed}
 use Rattle.gumbo_parse.proofs.+printer.Goals as goal
 
@@ -33,20 +33,20 @@ expression::Expression::print-returns-in_ok-print-in-MustSend-clause-allowed t c
 pub expression::Expression::print-returns-in_ok-print-in-Unary-clause-text : goal.expression::Expression::print-returns-in_ok-print-in-Unary-clause-text
 expression::Expression::print-returns-in_ok-print-in-Unary-clause-text t c =
     unary_text c.close.result c.args.self.now c.args.wanted c.args.after_minus c.args.out.now c.open.new.out c.print_sign.new.out c.print-in-Unary.new.out c.close.new.out
-    c.in-Unary.field-0 c.in-Unary.operator c.in-Unary.operand c.get-in-Unary.result.now c.level.result c.level-in-Unary.result c.is_minus.result
-    c.in-Unary.is c.get-in-Unary.ensures c.level.ensures.exact c.level-in-Unary.ensures.exact c.is_minus.ensures
+    c.in-Unary.field-0 c.in-Unary.operator c.in-Unary.operand c.get-in-Unary.result.now c.level-level.result c.level-level.result c.is_minus.result
+    c.in-Unary.is c.get-in-Unary.ensures c.level-level.ensures.exact c.level-level.ensures.exact c.is_minus.ensures
     c.in_ok-open-in-Unary.ensures c.in_ok-print_sign-in-Unary.ensures c.in_ok-print-in-Unary.ensures.text c.close.ensures
 
 pub expression::Expression::print-returns-in_ok-print-in-Unary-clause-allowed : goal.expression::Expression::print-returns-in_ok-print-in-Unary-clause-allowed
 expression::Expression::print-returns-in_ok-print-in-Unary-clause-allowed t c =
-    unary_allowed c.close.result c.args.self.now c.args.wanted c.in-Unary.field-0 c.in-Unary.operator c.in-Unary.operand c.get-in-Unary.result.now c.level-in-Unary.result
-    c.in-Unary.is c.get-in-Unary.ensures c.level-in-Unary.ensures.exact c.in_ok-print-in-Unary.ensures.allowed
+    unary_allowed c.close.result c.args.self.now c.args.wanted c.in-Unary.field-0 c.in-Unary.operator c.in-Unary.operand c.get-in-Unary.result.now c.level-level.result
+    c.in-Unary.is c.get-in-Unary.ensures c.level-level.ensures.exact c.in_ok-print-in-Unary.ensures.allowed
 
 pub expression::Expression::print-returns-in_ok-print-in-Binary-2-clause-text : goal.expression::Expression::print-returns-in_ok-print-in-Binary-2-clause-text
 expression::Expression::print-returns-in_ok-print-in-Binary-2-clause-text t c =
     binary_text_printed c.close-in-Binary.result c.args.self.now c.args.wanted c.args.after_minus c.args.out.now c.open-in-Binary.new.out c.print-in-Binary.new.out c.print_infix.new.out c.print-in-Binary-2.new.out c.close-in-Binary.new.out
-    c.in-Binary.field-0 c.in-Binary.operator c.in-Binary.left c.in-Binary.right c.get-in-Binary.result.now c.get-in-Binary-2.result.now c.level-in-Binary.result c.left.result c.right.result
-    c.in-Binary.is c.get-in-Binary.ensures c.get-in-Binary-2.ensures c.level-in-Binary.ensures.exact c.left.ensures.exact c.right.ensures.exact
+    c.in-Binary.field-0 c.in-Binary.operator c.in-Binary.left c.in-Binary.right c.get-in-Binary.result.now c.get-in-Binary-2.result.now c.level.result c.left.result c.right.result
+    c.in-Binary.is c.get-in-Binary.ensures c.get-in-Binary-2.ensures c.level.ensures.exact c.left.ensures.exact c.right.ensures.exact
     c.in_ok-open-in-Binary.ensures c.in_ok-print-in-Binary.ensures.text c.in_ok-print_infix-in-Binary.ensures c.in_ok-print-in-Binary-2.ensures.text c.close-in-Binary.ensures
 
 pub expression::Expression::print-returns-in_ok-print-in-Binary-2-clause-allowed : goal.expression::Expression::print-returns-in_ok-print-in-Binary-2-clause-allowed

@@ -1,5 +1,5 @@
 use Rattle.gumbo_parse.specs.ContractTokens.{clause_tokens}
-use Rattle.gumbo_parse.proofs.AllowedForms.{section_allowed}
+use Rattle.gumbo_parse.proofs.AllowedContracts.{section_allowed}
 use Rattle.gumbo_parse.proofs.annex.print_section.Goals as goal
 
 pub returns-clause-allowed : goal.returns-clause-allowed

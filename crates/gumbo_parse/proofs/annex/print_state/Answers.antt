@@ -1,6 +1,6 @@
 use Rattle.gumbo_parse.specs.declared.word.Word.TheVariants as word
 use Rattle.gumbo_parse.specs.ContractTokens.{variable_tokens}
-use Rattle.gumbo_parse.proofs.AllowedForms.{section_allowed}
+use Rattle.gumbo_parse.proofs.AllowedContracts.{section_allowed}
 use Rattle.gumbo_parse.proofs.annex.print_state.Goals as goal
 
 pub returns-clause-allowed : goal.returns-clause-allowed

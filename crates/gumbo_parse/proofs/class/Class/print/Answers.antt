@@ -1,5 +1,5 @@
 use Rattle.gumbo_parse.proofs.Allowing.{name_allowed}
-use Rattle.gumbo_parse.proofs.AllowedForms.{base_allowed, model_allowed}
+use Rattle.gumbo_parse.proofs.AllowedContracts.{base_allowed, model_allowed}
 use Rattle.gumbo_parse.proofs.class.Class.print.Goals as goal
 
 pub returns-in-Base-clause-allowed : goal.returns-in-Base-clause-allowed

@@ -1,7 +1,7 @@
 use Rattle.gumbo_parse.specs.Allowed.{AreAllowed}
 use Rattle.gumbo_parse.specs.ContractTokens.{clause_tokens}
 use Rattle.gumbo_parse.proofs.Allowing.{always, name_allowed}
-use Rattle.gumbo_parse.proofs.AllowedForms.{clause_allowed}
+use Rattle.gumbo_parse.proofs.AllowedContracts.{clause_allowed}
 use Rattle.gumbo_parse.proofs.contract.Clause.print.Goals as goal
 
 pub returns-clause-allowed : goal.returns-clause-allowed

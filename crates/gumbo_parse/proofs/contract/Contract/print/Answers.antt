@@ -1,4 +1,4 @@
-use Rattle.gumbo_parse.proofs.AllowedForms.{contract_allowed}
+use Rattle.gumbo_parse.proofs.AllowedContracts.{contract_allowed}
 use Rattle.gumbo_parse.proofs.contract.Contract.print.Goals as goal
 
 pub returns-clause-allowed : goal.returns-clause-allowed

@@ -1,5 +1,5 @@
 use Rattle.gumbo_parse.proofs.Allowing.{name_allowed}
-use Rattle.gumbo_parse.proofs.AllowedForms.{handler_allowed}
+use Rattle.gumbo_parse.proofs.AllowedContracts.{handler_allowed}
 use Rattle.gumbo_parse.proofs.contract.Handler.print.Goals as goal
 
 pub returns-clause-allowed : goal.returns-clause-allowed

@@ -3,7 +3,7 @@ use Rattle.std.specs.List.{flat_map}
 use Rattle.gumbo_parse.specs.Allowed.{AreAllowed}
 use Rattle.gumbo_parse.specs.Classes.{variable_text}
 use Rattle.gumbo_parse.specs.ContractTokens.{variable_tokens}
-use Rattle.gumbo_parse.proofs.annex.print_variables.Given as goal
+use Rattle.gumbo_parse.proofs.print_class.print_variables.Given as goal
 
 abbrev pub invariant-loop-variable : goal.invariant-loop-variable
 invariant-loop-variable l = record {
