@@ -9,6 +9,7 @@ pub mod ClauseForms
 pub mod ExpressionInduction
 pub mod ExpressionTexts
 pub mod Failures
+pub mod FarLaw
 pub mod Flawless
 pub mod InnerTokens
 pub mod LeafForms
