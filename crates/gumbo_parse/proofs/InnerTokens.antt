@@ -21,24 +21,19 @@ use Rattle.gumbo_parse.specs.declared.token.Token.{Token}
 use Rattle.gumbo_parse.specs.declared.token.Token.TheVariants as token
 use Rattle.gumbo_parse.specs.declared.word.Word.TheVariants as word
 use Rattle.gumbo_parse.specs.ExpressionTokens.{Written, in_parentheses, unary_token, binary_token, truth_word, sign_tokens, bound_tokens, port_tokens, quantification_tokens, expression_tokens, selector_tokens}
+use Rattle.gumbo_parse.specs.FarTokens.{stays_in_clause}
 use Rattle.gumbo_parse.specs.Flaws.{spot_behind}
 use Rattle.gumbo_parse.specs.Operators.{unary_level, binary_level, left_level, right_level, test_word}
 use Rattle.gumbo_parse.proofs.ExpressionInduction.{OfEach, of_each_expression}
 use Rattle.gumbo_parse.proofs.TokensOfExpressions.{tokens-Number, tokens-Truth, tokens-Value, tokens-Before, tokens-Test, tokens-MustSend, tokens-Unary, tokens-Binary, tokens-Quantified, tokens-Field, tokens-Index}
 
-abbrev is_inner : Token → Bool
-is_inner (token.Word word.Assume) = false
-is_inner (token.Word word.Guarantee) = false
-is_inner (token.Mark mark.Semicolon) = false
-is_inner _ = true
-
 -- tokens of which none begins or ends a clause
 abbrev pub Inner : List Token → Type 0
 Inner [] = Unit {0}
-Inner (t ∷ ts) = (is_inner t ≡ true) × Inner ts
+Inner (t ∷ ts) = (stays_in_clause t ≡ true) × Inner ts
 
 -- such a token is one more of an expression
-pub one-more : (t : Token) (n : ℕ) → is_inner t ≡ true → spot_behind (spot.Expression n) t ≡ spot.Expression (n + 1)
+pub one-more : (t : Token) (n : ℕ) → stays_in_clause t ≡ true → spot_behind (spot.Expression n) t ≡ spot.Expression (n + 1)
 one-more (token.Word word.Assume) n e = absurd (false≢true e)
 one-more (token.Word word.Guarantee) n e = absurd (false≢true e)
 one-more (token.Word w) n e = refl

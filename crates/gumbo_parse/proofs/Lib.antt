@@ -8,6 +8,7 @@ pub mod ClassForms
 pub mod ClauseForms
 pub mod ExpressionInduction
 pub mod ExpressionTexts
+pub mod FarLaw
 pub mod Flawless
 pub mod InnerTokens
 pub mod LeafForms

@@ -4,6 +4,7 @@ pub mod ClassNames
 pub mod Classes
 pub mod ContractTokens
 pub mod ExpressionTokens
+pub mod FarTokens
 pub mod Flaws
 pub mod Grammar
 pub mod Levels
