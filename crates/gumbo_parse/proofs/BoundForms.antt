@@ -1,16 +1,12 @@
 -- Readers of ends of ranges and of headings of quantifiers, before their first part.
-use Rattle.std.proofs.Common.{◌≡◌, List, [], ◌∷◌, ◌++◌, codes, refl, true, None, ℕ}
-use Rattle.hw_text.specs.Language.{One, Maybe, ◌⋅◌, Made}
-use Rattle.hw_text.specs.Reading.{begins, Begins, Anything, Leaves}
+use Rattle.std.proofs.Common.{List, [], ◌∷◌, ◌++◌, codes, refl, true, None, ℕ}
+use Rattle.hw_text.specs.Language.{One, Maybe, ◌⋅◌}
+use Rattle.hw_text.specs.Reading.{Begins, Anything, Leaves}
 use Rattle.hw_text.proofs.Reading.{one-begins, then-begins}
 use Rattle.hw_text.specs.declared.place.Place.{Place}
 use Rattle.gumbo_parse.specs.declared.expression.Bound.{Bound}
-use Rattle.gumbo_parse.specs.declared.expression.Named.{Named}
 use Rattle.gumbo_parse.specs.declared.mark.Mark.{Mark}
 use Rattle.gumbo_parse.specs.declared.mark.Mark.TheVariants as mark
-use Rattle.gumbo_parse.specs.declared.operator.Quantifier.TheVariants.{ForAll}
-use Rattle.gumbo_parse.specs.declared.operator.Quantifier.{Quantifier}
-use Rattle.gumbo_parse.specs.declared.quantification.Quantification.{Quantification}
 use Rattle.gumbo_parse.specs.declared.token.Token.TheVariants as token
 use Rattle.gumbo_parse.specs.declared.word.Word.{Word}
 use Rattle.gumbo_parse.specs.declared.word.Word.TheVariants as word
@@ -18,9 +14,8 @@ use Rattle.gumbo_parse.specs.Grammar.{Sign, Keyword, Name, bound_of, SpellsBound
 use Rattle.gumbo_parse.specs.Marks.{mark_spelling}
 use Rattle.gumbo_parse.specs.Words.{word_spelling}
 use Rattle.gumbo_parse.specs.Values.{Tokens, one_of, Without, name_of, number_of, place_of, one_listed, name_shapes, texts, start}
-use Rattle.gumbo_parse.proofs.Shapes.{place-shaped, name-shaped, number-shaped, listed-shaped, begins-without}
+use Rattle.gumbo_parse.proofs.Shapes.{place-shaped, name-shaped, number-shaped, listed-shaped}
 use Rattle.gumbo_parse.proofs.Choices.{begins-follow}
-use Rattle.gumbo_parse.proofs.PortForms.{a_sign, a_keyword, a_name, both, made}
 use Rattle.gumbo_parse.proofs.Steps.{opening}
 
 -- how single tokens begin

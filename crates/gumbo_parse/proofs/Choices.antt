@@ -1,12 +1,12 @@
 -- What has been read of productions that stand there or not, and of one or another.
-use Rattle.std.proofs.Common.{◌≡◌, ◌∙◌, refl, sym, ap, subst, ℕ, List, [], ◌∷◌, ◌++◌, true, false, Option, Some, None, append-nil, append_assoc, ◌<◌, ◌≤◌, length, length-append, arith}
+use Rattle.std.proofs.Common.{◌≡◌, ◌∙◌, refl, sym, ap, subst, ℕ, List, [], ◌∷◌, ◌++◌, true, false, Option, Some, None, append_assoc, ◌<◌, ◌≤◌, length, length-append, arith}
 use Rattle.std.specs.Prelude.{⊤, Result, Ok, Err}
 use Rattle.std.proofs.lemmas.Bool.{false≢true}
 use Rattle.hw_text.specs.Language.{◌⋅◌, Maybe, Each, Made, ◌∣◌}
-use Rattle.hw_text.specs.Reading.{first, begins, Begins, Anything, Reached, Stuck, Reads, Leaves}
+use Rattle.hw_text.specs.Reading.{begins, Begins, Reached, Reads, Leaves}
 use Rattle.hw_text.specs.declared.read_fault.ReadFault.{ReadFault}
 use Rattle.hw_text.specs.declared.read_fault.ReadFault.TheVariants.{Syntax, NoMemory}
-use Rattle.hw_text.proofs.Reading.{begun, some, none, more, no_more, left, right, rebuilt, ended, last, last-stuck, never-begins, never-follows, first-begins, never-longer, either-begins, unmade}
+use Rattle.hw_text.proofs.Reading.{begun, some, none, more, no_more, left, right, ended, last, last-stuck, never-begins, never-follows, first-begins, never-longer, either-begins, unmade}
 use Rattle.gumbo_parse.specs.Values.{Tokens, one_of, Without, is_disjoint}
 use Rattle.gumbo_parse.proofs.Shapes.{begins-without, begins-left, begins-right}
 

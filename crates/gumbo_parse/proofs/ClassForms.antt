@@ -1,6 +1,6 @@
 -- Readers of state variables and their types, before their first part.
 use Rattle.std.proofs.Common.{◌≡◌, refl, sym, subst, ℕ, List, [], ◌∷◌, ◌++◌, codes, true, false, Option, inl}
-use Rattle.hw_text.specs.Language.{One, ◌⋅◌, Maybe, Each, Made, ◌∣◌}
+use Rattle.hw_text.specs.Language.{One, ◌⋅◌, Maybe, Each, ◌∣◌}
 use Rattle.hw_text.specs.Reading.{begins, Begins, Anything, Leaves}
 use Rattle.hw_text.proofs.Reading.{begun, one-begins, made-begins, then-begins}
 use Rattle.hw_text.specs.declared.place.Place.{Place}
@@ -10,12 +10,13 @@ use Rattle.gumbo_parse.specs.declared.class.Class.{Class}
 use Rattle.gumbo_parse.specs.declared.mark.Mark.TheVariants as mark
 use Rattle.gumbo_parse.specs.declared.token.Token.TheVariants as token
 use Rattle.gumbo_parse.specs.Classes.{base_class, SpellsBase, name_behind, SpellsStep, SpellsImplementation, model_class, SpellsModel, SpellsClass, variable_of, SpellsVariable}
+use Rattle.gumbo_parse.specs.ClassNames.{other_of}
 use Rattle.gumbo_parse.specs.Grammar.{Sign, Name}
 use Rattle.gumbo_parse.specs.Marks.{mark_spelling}
-use Rattle.gumbo_parse.specs.Values.{Tokens, one_of, Without, place_of, other_of, base_of, name_shapes, start}
+use Rattle.gumbo_parse.specs.Values.{Tokens, one_of, Without, place_of, base_of, name_shapes, start}
 use Rattle.gumbo_parse.proofs.BoundForms.{sign-begins, name-begins}
-use Rattle.gumbo_parse.proofs.Choices.{first_of, second_of, members-follow, maybe-follows, begins-follow}
-use Rattle.gumbo_parse.proofs.PortForms.{a_sign, a_name, both, made}
+use Rattle.gumbo_parse.proofs.Choices.{first_of, second_of, maybe-follows, begins-follow}
+use Rattle.gumbo_parse.proofs.PortForms.{a_sign, both, made}
 use Rattle.gumbo_parse.proofs.Shapes.{place-shaped, other-shaped, base_package, without-left, without-right}
 use Rattle.gumbo_parse.proofs.Steps.{opening}
 

@@ -1,5 +1,5 @@
 -- Readers of clauses, before their first part.
-use Rattle.std.proofs.Common.{◌≡◌, refl, ℕ, List, [], ◌∷◌, ◌++◌, codes, true}
+use Rattle.std.proofs.Common.{refl, [], ◌∷◌, ◌++◌, codes, true}
 use Rattle.hw_text.specs.Language.{One, ◌⋅◌, Maybe}
 use Rattle.hw_text.specs.Reading.{Begins, Anything, Leaves}
 use Rattle.hw_text.proofs.Reading.{one-begins, made-begins, then-begins}

@@ -17,7 +17,7 @@ open-more ts i t within here =
     ap (λ (n : ℕ). open_behind 0 (take n ts)) (add-one i) ∙ ap (open_behind 0) (take-suc ts i t within) ∙ open-append 0 (take i ts) (get_or ts i t ∷ []) ∙
     ap (λ (x : Placed Token). open_behind_token (open_behind 0 (take i ts)) x.token) (sym here)
 
-spot-append : (s : Spot) (xs ys : List (Placed Token)) → spot_after s (xs ++ ys) ≡ spot_after (spot_after s xs) ys
+pub spot-append : (s : Spot) (xs ys : List (Placed Token)) → spot_after s (xs ++ ys) ≡ spot_after (spot_after s xs) ys
 spot-append s [] ys = refl
 spot-append s (x ∷ xs) ys = spot-append (spot_behind s x.token) xs ys
 

@@ -1,6 +1,6 @@
 -- Readers of operands and parts that have no expressions in them, before their first part.
-use Rattle.std.proofs.Common.{◌≡◌, List, [], ◌∷◌, codes, true, ℕ}
-use Rattle.hw_text.specs.Language.{One, ◌⋅◌, Made}
+use Rattle.std.proofs.Common.{[], ◌∷◌, codes, true}
+use Rattle.hw_text.specs.Language.{One, ◌⋅◌}
 use Rattle.hw_text.specs.Reading.{Begins, Anything, Leaves}
 use Rattle.hw_text.proofs.Reading.{made-begins, then-begins}
 use Rattle.gumbo_parse.specs.declared.mark.Mark.TheVariants as mark

@@ -1,14 +1,13 @@
 -- With which tokens expressions of a level begin, go on and end.
-use Rattle.std.proofs.Common.{◌≡◌, ◌+◌, ◌∙◌, refl, sym, subst, ap, ℕ, List, [], ◌∷◌, ◌++◌, codes, true, false}
+use Rattle.std.proofs.Common.{◌≡◌, refl, subst, ℕ, List, [], ◌∷◌, ◌++◌, codes, true}
 use Rattle.hw_text.specs.Reading.{begins}
 use Rattle.gumbo_parse.specs.declared.level.Level.{Level}
 use Rattle.gumbo_parse.specs.declared.level.Level.TheVariants as level
-use Rattle.gumbo_parse.specs.declared.level.Form.{Form}
 use Rattle.gumbo_parse.specs.declared.level.Form.TheVariants as form
 use Rattle.gumbo_parse.specs.declared.mark.Mark.TheVariants as mark
 use Rattle.gumbo_parse.specs.declared.word.Word.TheVariants as word
 use Rattle.gumbo_parse.specs.Grammar.{truths, tests}
-use Rattle.gumbo_parse.specs.Levels.{next, right, form_of, infixes, prefixes, part_shapes, goes_on, Ends, height}
+use Rattle.gumbo_parse.specs.Levels.{next, right, form_of, infixes, prefixes, part_shapes, goes_on, Ends}
 use Rattle.gumbo_parse.specs.Marks.{mark_spelling}
 use Rattle.gumbo_parse.specs.Words.{word_spelling}
 use Rattle.gumbo_parse.specs.Values.{Tokens, one_of, Without, is_disjoint, name_shapes, texts}

@@ -1,18 +1,17 @@
 -- The productions of levels, each as its parts.
-use Rattle.std.proofs.Common.{◌≡◌, ◌∙◌, refl, sym, subst, ap, ℕ, List, [], ◌∷◌, ◌++◌, true, Option, Some, None, append_assoc, inl, inr}
-use Rattle.hw_text.specs.Language.{One, ◌⋅◌, Made, ◌∣◌, Maybe, Each, Noted}
+use Rattle.std.proofs.Common.{◌≡◌, ◌∙◌, refl, sym, subst, ap, List, [], ◌∷◌, ◌++◌, true, Option, Some, None, append_assoc, inl, inr}
+use Rattle.hw_text.specs.Language.{One, ◌⋅◌, Made, ◌∣◌, Maybe, Each}
 use Rattle.hw_text.specs.Reading.{begins, Begins, Leaves}
 use Rattle.hw_text.proofs.Reading.{begun, then-begins}
 use Rattle.hw_text.specs.declared.place.Place.{Place}
 use Rattle.gumbo_parse.specs.declared.expression.Expression.{Expression}
 use Rattle.gumbo_parse.specs.declared.expression.Expression.TheVariants.{Unary}
 use Rattle.gumbo_parse.specs.declared.level.Level.{Level}
-use Rattle.gumbo_parse.specs.declared.level.Level.TheVariants as level
 use Rattle.gumbo_parse.specs.declared.level.Form.TheVariants as form
 use Rattle.gumbo_parse.specs.declared.operation.Operation.{Operation}
 use Rattle.gumbo_parse.specs.declared.operator.BinaryOperator.{BinaryOperator}
 use Rattle.gumbo_parse.specs.declared.operator.UnaryOperator.{UnaryOperator}
-use Rattle.gumbo_parse.specs.Grammar.{Spells, chain, pair, prefixed, plain, operand, SpellsOperation, operation, SpellsOperations, no_operations, operations, SpellsOptional, no_operation, one_operation, SpellsOperand, SpellsStarted, started, chained, paired, operation_of, start_of}
+use Rattle.gumbo_parse.specs.Grammar.{Spells, chain, pair, prefixed, plain, operand, SpellsOperation, operation, SpellsOperations, no_operations, operations, SpellsOptional, no_operation, one_operation, SpellsOperand, chained, paired, operation_of}
 use Rattle.gumbo_parse.specs.Levels.{next, right, form_of, infixes, prefixes, Ends}
 use Rattle.gumbo_parse.specs.Values.{Tokens, one_of, one_listed, texts}
 use Rattle.gumbo_parse.proofs.BoundForms.{listed-begins}

@@ -1,14 +1,14 @@
 -- Lists of members, read behind those that were read before.
 use Rattle.std.proofs.Common.{◌≡◌, ◌∙◌, refl, sym, ap, subst, ℕ, List, [], ◌∷◌, ◌++◌, true, false, append-nil, append_assoc}
-use Rattle.std.specs.Prelude.{Result, Ok, Err, IsErrAnd}
+use Rattle.std.specs.Prelude.{Result, Err, IsErrAnd}
 use Rattle.hw_text.specs.Language.{◌⋅◌, Each, Made}
 use Rattle.hw_text.specs.Reading.{begins, Begins, Anything, Reached, Reads, Leaves}
 use Rattle.hw_text.specs.declared.read_fault.ReadFault.{ReadFault}
-use Rattle.hw_text.proofs.Reading.{begun, rebuilt}
+use Rattle.hw_text.proofs.Reading.{rebuilt}
 use Rattle.gumbo_parse.specs.Annex.{all_of, SpellsSome}
 use Rattle.gumbo_parse.specs.Values.{Tokens, one_of, Without}
-use Rattle.gumbo_parse.proofs.Choices.{no_member, a_member, no_members, members-follow, hand_on, opened_as, same}
-use Rattle.gumbo_parse.proofs.Steps.{opening, then, halt, next_before, halt_before}
+use Rattle.gumbo_parse.proofs.Choices.{no_member, a_member, no_members, hand_on, same}
+use Rattle.gumbo_parse.proofs.Steps.{opening, then, halt}
 
 module _ {X : Type 0} (A : X → Tokens → Type 0) (xs : List (List ℕ)) (is : Begins (one_of xs) true A) where
   abbrev pub Later : List X → List X → Tokens → Type 0

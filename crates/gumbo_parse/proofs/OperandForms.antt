@@ -1,24 +1,18 @@
 -- The productions of operands, each as its parts.
-use Rattle.std.proofs.Common.{◌≡◌, ◌∙◌, refl, sym, subst, ap, ℕ, List, [], ◌∷◌, ◌++◌, codes, true, false, Option, Some, None, inl, inr}
-use Rattle.hw_text.specs.Language.{One, ◌⋅◌, Made, ◌∣◌, Maybe, Each}
-use Rattle.hw_text.specs.Reading.{begins, Begins, Anything, Leaves}
-use Rattle.hw_text.proofs.Reading.{begun, then-begins, made-begins}
-use Rattle.hw_text.specs.declared.place.Place.{Place}
+use Rattle.std.proofs.Common.{◌∙◌, refl, ap, [], ◌∷◌, ◌++◌, codes, true, inl, inr}
+use Rattle.hw_text.specs.Language.{◌⋅◌, ◌∣◌}
+use Rattle.hw_text.specs.Reading.{Begins}
+use Rattle.hw_text.proofs.Reading.{then-begins, made-begins}
 use Rattle.gumbo_parse.specs.declared.expression.Expression.{Expression}
-use Rattle.gumbo_parse.specs.declared.expression.Selector.{Selector}
-use Rattle.gumbo_parse.specs.declared.level.Level.TheVariants as level
 use Rattle.gumbo_parse.specs.declared.mark.Mark.TheVariants as mark
 use Rattle.gumbo_parse.specs.declared.word.Word.TheVariants as word
-use Rattle.gumbo_parse.specs.Grammar.{Sign, Keyword, Name, tests, truths, SpellsNumber, SpellsTruth, SpellsTest, SpellsIn, SpellsAsked, SpellsField, Spells, SpellsOperand, number, truth, test_alone, value, before, must_send, parenthesised, SpellsValue, value_of, SpellsBefore, before_of, SpellsMustSend, must_send_of, SpellsParenthesised, grouped_of, SpellsSent, nothing_sent, sent, SpellsStarted, SpellsGroup, whole, quantified, SpellsQuantified, quantified_of, SpellsQuantification, SpellsParts, no_parts, parts, SpellsPart, field, index, SpellsIndex, index_of}
-use Rattle.gumbo_parse.specs.Levels.{part_shapes, goes_on, Ends}
-use Rattle.gumbo_parse.specs.Marks.{mark_spelling}
+use Rattle.gumbo_parse.specs.Grammar.{Sign, Name, tests, truths, SpellsNumber, SpellsTruth, SpellsTest, SpellsIn, SpellsAsked, SpellsOperand, number, truth, test_alone, value, before, must_send, parenthesised, SpellsValue, value_of, SpellsBefore, before_of, SpellsMustSend, must_send_of, SpellsParenthesised, grouped_of, SpellsSent, SpellsGroup, SpellsParts}
 use Rattle.gumbo_parse.specs.Words.{word_spelling}
-use Rattle.gumbo_parse.specs.Values.{Tokens, one_of, Without, name_shapes, texts}
-use Rattle.gumbo_parse.proofs.BoundForms.{sign-begins, keyword-begins, name-begins}
+use Rattle.gumbo_parse.specs.Values.{Tokens, one_of, name_shapes, texts}
+use Rattle.gumbo_parse.proofs.BoundForms.{sign-begins, name-begins}
 use Rattle.gumbo_parse.proofs.Choices.{either-starts}
-use Rattle.gumbo_parse.proofs.LeafForms.{number_form-begins, truth-begins, test-begins, in-begins, asked-begins, field-begins}
+use Rattle.gumbo_parse.proofs.LeafForms.{number_form-begins, truth-begins, test-begins, in-begins, asked-begins}
 use Rattle.gumbo_parse.proofs.LevelFacts.{group_starts, send_starts, before_starts, value_starts, test_starts, truth_starts, operand_starts}
-use Rattle.gumbo_parse.proofs.Steps.{opening}
 
 abbrev pub SendForms : Expression → Tokens → Type 0
 SendForms = SpellsMustSend ∣ SpellsParenthesised

@@ -1,6 +1,6 @@
 -- Readers of operands, before their first part, and which form stands there.
-use Rattle.std.proofs.Common.{◌≡◌, ◌∙◌, refl, sym, subst, ap, ℕ, List, [], ◌∷◌, ◌++◌, codes, true, false, Option, Some, None, inl, inr}
-use Rattle.hw_text.specs.Language.{One, ◌⋅◌, Made, ◌∣◌, Maybe, Each}
+use Rattle.std.proofs.Common.{◌≡◌, ◌∙◌, refl, sym, subst, ap, List, [], ◌∷◌, ◌++◌, codes, true, false, Option, Some, None, inl, inr}
+use Rattle.hw_text.specs.Language.{◌⋅◌, Made, ◌∣◌, Maybe, Each}
 use Rattle.hw_text.specs.Reading.{begins, Begins, Anything, Leaves}
 use Rattle.hw_text.proofs.Reading.{begun, then-begins, made-begins}
 use Rattle.hw_text.specs.declared.place.Place.{Place}
@@ -15,7 +15,7 @@ use Rattle.gumbo_parse.specs.Marks.{mark_spelling}
 use Rattle.gumbo_parse.specs.Words.{word_spelling}
 use Rattle.gumbo_parse.specs.Values.{Tokens, one_of, Without, name_shapes, texts}
 use Rattle.gumbo_parse.proofs.BoundForms.{sign-begins, quantification-begins}
-use Rattle.gumbo_parse.proofs.Choices.{first_of, second_of, either-starts, begins-follow, maybe-follows}
+use Rattle.gumbo_parse.proofs.Choices.{first_of, second_of, either-starts, begins-follow}
 use Rattle.gumbo_parse.proofs.LeafForms.{number_form-begins, truth-begins, test-begins, field-begins}
 use Rattle.gumbo_parse.proofs.LevelFacts.{starts, group_starts, send_starts, before_starts, value_starts, test_starts, truth_starts}
 use Rattle.gumbo_parse.proofs.LevelForms.{spells-begins}

@@ -1,6 +1,6 @@
 -- Readers of names in parentheses, before their first part.
 use Rattle.std.proofs.Common.{[], ◌∷◌, ◌++◌, codes, refl}
-use Rattle.hw_text.specs.Language.{One, ◌⋅◌, Made}
+use Rattle.hw_text.specs.Language.{◌⋅◌, Made}
 use Rattle.hw_text.specs.Reading.{Anything, Leaves}
 use Rattle.hw_text.proofs.Reading.{begun}
 use Rattle.hw_text.specs.declared.place.Place.{Place}

@@ -5,8 +5,7 @@ use Rattle.gumbo_parse.specs.declared.expression.Expression.{Expression}
 use Rattle.gumbo_parse.specs.declared.level.Level.{Level}
 use Rattle.gumbo_parse.specs.declared.level.Level.TheVariants as level
 use Rattle.gumbo_parse.specs.declared.level.Form.TheVariants as form
-use Rattle.gumbo_parse.specs.declared.mark.Mark.TheVariants as mark
-use Rattle.gumbo_parse.specs.Grammar.{Spells, chain, pair, plain, operand, no_operations, no_operation, number, number_at, chained, paired, SpellsStarted, started, start_of, SpellsGroup, whole}
+use Rattle.gumbo_parse.specs.Grammar.{Spells, chain, pair, plain, operand, no_operations, no_operation, number, number_at, SpellsStarted, started, start_of, SpellsGroup, whole}
 use Rattle.gumbo_parse.specs.Levels.{next, form_of}
 use Rattle.gumbo_parse.specs.Values.{Tokens}
 use Rattle.gumbo_parse.proofs.BoundForms.{a_number}

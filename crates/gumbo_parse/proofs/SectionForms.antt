@@ -1,19 +1,14 @@
 -- Readers of sections, before their first part, and what may stand behind them.
-use Rattle.std.proofs.Common.{◌≡◌, ◌∙◌, refl, sym, ap, subst, ℕ, List, [], ◌∷◌, ◌++◌, true, false, Option, Some, None, append_assoc}
-use Rattle.std.specs.Prelude.{⊤}
-use Rattle.hw_text.specs.Language.{One, ◌⋅◌, Maybe, Each, Made}
-use Rattle.hw_text.specs.Reading.{begins, Begins, Anything, TheEnd, Leaves}
+use Rattle.std.proofs.Common.{◌≡◌, ◌∙◌, refl, sym, ap, subst, ℕ, List, [], ◌∷◌, ◌++◌, true, Option, None, append_assoc}
+use Rattle.hw_text.specs.Language.{One, ◌⋅◌, Maybe, Each}
+use Rattle.hw_text.specs.Reading.{begins, Begins, TheEnd, Leaves}
 use Rattle.hw_text.proofs.Reading.{begun, made-begins, then-begins}
-use Rattle.hw_text.specs.declared.place.Place.{Place}
-use Rattle.gumbo_parse.specs.declared.class.Variable.{Variable}
 use Rattle.gumbo_parse.specs.declared.contract.Clause.{Clause}
 use Rattle.gumbo_parse.specs.declared.contract.Compute.{Compute}
-use Rattle.gumbo_parse.specs.declared.contract.Contract.{Contract}
 use Rattle.gumbo_parse.specs.declared.contract.Handler.{Handler}
 use Rattle.gumbo_parse.specs.declared.mark.Mark.TheVariants as mark
 use Rattle.gumbo_parse.specs.declared.word.Word.TheVariants as word
-use Rattle.gumbo_parse.specs.Annex.{kinds, initial, SpellsClause, all_of, SpellsSome, or_none, SpellsSection, SpellsState, SpellsIntegration, SpellsInitialize, handler_of, SpellsHandler, compute_of, SpellsCompute, contract_of, SpellsContract}
-use Rattle.gumbo_parse.specs.Classes.{SpellsVariable}
+use Rattle.gumbo_parse.specs.Annex.{kinds, initial, SpellsClause, SpellsSome, or_none, SpellsSection, SpellsState, SpellsIntegration, SpellsInitialize, handler_of, SpellsHandler, compute_of, SpellsCompute, contract_of, SpellsContract}
 use Rattle.gumbo_parse.specs.Grammar.{Sign, Keyword, Name}
 use Rattle.gumbo_parse.specs.Values.{Tokens, one_of, Without, is_disjoint, name_shapes, texts, one_listed}
 use Rattle.gumbo_parse.specs.Words.{word_spelling}

@@ -1,5 +1,5 @@
 -- A text of each section.
-use Rattle.std.proofs.Common.{List, [], ◌∷◌, ◌++◌, refl}
+use Rattle.std.proofs.Common.{List}
 use Rattle.gumbo_parse.specs.declared.class.Variable.{Variable}
 use Rattle.gumbo_parse.specs.declared.contract.Clause.{Clause}
 use Rattle.gumbo_parse.specs.declared.mark.Mark.TheVariants as mark

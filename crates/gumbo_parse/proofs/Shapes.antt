@@ -1,21 +1,22 @@
 -- How texts begin, told by the shapes of their first tokens.
-use Rattle.std.proofs.Common.{◌≡◌, ◌∙◌, refl, sym, ap, subst, ℕ, List, [], ◌∷◌, ◌++◌, Bool, true, false, ◌&&◌, ◌||◌, not, cond, codes, Option, Some, None}
-use Rattle.std.specs.Prelude.{is_some, ⊤}
+use Rattle.std.proofs.Common.{◌≡◌, ◌∙◌, refl, sym, ap, ℕ, List, [], ◌∷◌, ◌++◌, Bool, true, false, ◌&&◌, ◌||◌, not, cond, codes, Option, Some, None}
+use Rattle.std.specs.Prelude.{is_some}
 use Rattle.std.specs.List.{list_any}
 use Rattle.std.specs.Str.{bytes_eq}
 use Rattle.std.proofs.lemmas.Slice.Eq.{bytes_eq-Decides}
 use Rattle.std.proofs.lemmas.Bool.{false≢true}
-use Rattle.hw_text.specs.Language.{One, ◌⋅◌, Maybe, Each, Made, ◌∣◌}
 use Rattle.hw_text.specs.Reading.{ahead, begins, Begins}
 use Rattle.hw_text.specs.declared.place.Place.{Place}
 use Rattle.hw_text.specs.declared.placed.Placed.{Placed}
+use Rattle.gumbo_parse.specs.declared.class_name.ClassName.{ClassName}
 use Rattle.gumbo_parse.specs.declared.expression.Named.{Named}
 use Rattle.gumbo_parse.specs.declared.mark.Mark.{Mark}
 use Rattle.gumbo_parse.specs.declared.token.Token.{Token}
 use Rattle.gumbo_parse.specs.declared.token.Token.TheVariants as token
 use Rattle.gumbo_parse.specs.declared.word.Word.{Word}
+use Rattle.gumbo_parse.specs.ClassNames.{other_name_by, other_in, other_of}
 use Rattle.gumbo_parse.specs.Marks.{mark_spelling}
-use Rattle.gumbo_parse.specs.Values.{Tokens, shape, one_of, Without, is_disjoint, at_if, place_of, listed, texts, beside, one_listed, name_in, number_in, text_in, other_of, name_shapes, start}
+use Rattle.gumbo_parse.specs.Values.{Tokens, shape, one_of, Without, is_disjoint, at_if, place_of, listed, texts, beside, one_listed, name_in, number_in, text_in, is_base_package, name_shapes, start}
 use Rattle.gumbo_parse.specs.Words.{word_spelling}
 
 any-append : {X : Type 0} (p : X → Bool) (xs ys : List X) → list_any p (xs ++ ys) ≡ (list_any p xs || list_any p ys)
@@ -87,7 +88,7 @@ at_if-true false p at e = absurd (false≢true (ap is_some e))
 pub place-shaped : (text : List ℕ) (t : Placed Token) (at : Place) → place_of text t ≡ Some at → one_of (text ∷ []) t ≡ true
 place-shaped text t at e = ap (λ (b : Bool). b || false) (at_if-true (bytes_eq (shape t.token) text) t.place at e)
 
-same-text : (s : List ℕ) → bytes_eq s s ≡ true
+pub same-text : (s : List ℕ) → bytes_eq s s ≡ true
 same-text s = (bytes_eq-Decides s s).1 refl
 
 pub a_mark : (m : Mark) → (t : Placed Token) × (x : Place) × (place_of (mark_spelling m) t ≡ Some x)
@@ -160,9 +161,17 @@ text-shaped (token.Mark m) at x e = absurd (false≢true (ap is_some e))
 pub base_package : (t : Placed Token) × (x : Place) × (place_of (codes "base_types") t ≡ Some x)
 base_package = (record { token = token.Name (codes "base_types"); place = start }, start, refl)
 
-other-at : (b : Bool) (o : Option Named) (x : Named) → cond b o None ≡ Some x → b ≡ true
-other-at true o x e = refl
-other-at false o x e = absurd (false≢true (ap is_some e))
+other-either : (n : List ℕ) (at : Place) (b : Bool) (is : is_base_package n ≡ b) (x : ClassName) → other_name_by n at b is ≡ Some x → list_any (bytes_eq (cond b (codes "base_types") (codes "NAME"))) (codes "NAME" ∷ []) ≡ true
+other-either n at true is x e = absurd (false≢true (ap is_some e))
+other-either n at false is x e = refl
 
-pub other-shaped : (t : Placed Token) (x : Named) → other_of t ≡ Some x → one_of (codes "NAME" ∷ []) t ≡ true
-other-shaped t x e = other-at (one_of (codes "NAME" ∷ []) t) (name_in t.token t.place) x e
+other-at : (t : Token) (at : Place) (x : ClassName) → other_in t at ≡ Some x → one_of (codes "NAME" ∷ []) (record { token = t; place = at }) ≡ true
+other-at (token.Name n) at x e = other-either n at (is_base_package n) refl x e
+other-at (token.Word w) at x e = absurd (false≢true (ap is_some e))
+other-at token.Reserved at x e = absurd (false≢true (ap is_some e))
+other-at (token.Number v) at x e = absurd (false≢true (ap is_some e))
+other-at (token.Text d) at x e = absurd (false≢true (ap is_some e))
+other-at (token.Mark m) at x e = absurd (false≢true (ap is_some e))
+
+pub other-shaped : (t : Placed Token) (x : ClassName) → other_of t ≡ Some x → one_of (codes "NAME" ∷ []) t ≡ true
+other-shaped t x e = other-at t.token t.place x e

@@ -1,9 +1,9 @@
 -- What has been read of an expression is one, beside where it begins.
-use Rattle.std.proofs.Common.{◌≡◌, ◌∙◌, refl, sym, ap, subst, List, [], ◌∷◌, ◌++◌, true, false}
+use Rattle.std.proofs.Common.{◌≡◌, ◌∙◌, sym, ap, subst, [], ◌∷◌, ◌++◌, true}
 use Rattle.std.specs.Prelude.{Ok, Err, Result, IsErrAnd}
 use Rattle.std.proofs.lemmas.Bool.{false≢true}
 use Rattle.hw_text.specs.Language.{Noted}
-use Rattle.hw_text.specs.Reading.{begins, Reached, Stuck, Reads}
+use Rattle.hw_text.specs.Reading.{begins, Reached, Reads}
 use Rattle.hw_text.specs.declared.place.Place.{Place}
 use Rattle.hw_text.specs.declared.read_fault.ReadFault.{ReadFault}
 use Rattle.hw_text.proofs.Reading.{noted, noted-stuck, failed}

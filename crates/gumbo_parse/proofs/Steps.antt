@@ -2,7 +2,7 @@
 use Rattle.std.proofs.Common.{◌≡◌, refl, List, ◌++◌}
 use Rattle.std.specs.Prelude.{Result, Err, IsErrAnd}
 use Rattle.hw_text.specs.Language.{◌⋅◌, Made}
-use Rattle.hw_text.specs.Reading.{Anything, Reached, Stuck, Reads, Leaves}
+use Rattle.hw_text.specs.Reading.{Anything, Reached, Reads, Leaves}
 use Rattle.hw_text.specs.declared.read_fault.ReadFault.{ReadFault}
 use Rattle.hw_text.proofs.Reading.{begun, step, stuck, last, last-stuck, failed}
 

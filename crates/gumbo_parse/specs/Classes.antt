@@ -7,10 +7,12 @@ use Rattle.gumbo_parse.specs.declared.class.BaseType.{BaseType}
 use Rattle.gumbo_parse.specs.declared.class.Class.{Class}
 use Rattle.gumbo_parse.specs.declared.class.Class.TheVariants.{Base, Model}
 use Rattle.gumbo_parse.specs.declared.class.Variable.{Variable}
+use Rattle.gumbo_parse.specs.declared.class_name.ClassName.{ClassName}
 use Rattle.gumbo_parse.specs.declared.expression.Named.{Named}
 use Rattle.gumbo_parse.specs.declared.mark.Mark.TheVariants as mark
+use Rattle.gumbo_parse.specs.ClassNames.{other_of}
 use Rattle.gumbo_parse.specs.Grammar.{Sign, Name}
-use Rattle.gumbo_parse.specs.Values.{Tokens, place_of, other_of, base_of, base_name}
+use Rattle.gumbo_parse.specs.Values.{Tokens, place_of, base_of, base_name}
 
 abbrev pub base_class : Place × (Place × BaseType) → Class
 base_class p = Base p.0 p.1.1
@@ -30,7 +32,7 @@ SpellsStep = Made name_behind (Sign mark.DoubleColon ⋅ Name)
 abbrev pub SpellsImplementation : List ℕ → Tokens → Type 0
 SpellsImplementation = Made name_behind (Sign mark.Dot ⋅ Name)
 
-abbrev pub model_class : Named × (List (List ℕ) × Option (List ℕ)) → Class
+abbrev pub model_class : ClassName × (List (List ℕ) × Option (List ℕ)) → Class
 model_class p = Model (record { first = p.0; others = p.1.0; implementation = p.1.1 })
 
 -- NAME { "::" NAME } [ "." NAME ], whose first name is not `base_types`

@@ -1,7 +1,6 @@
 -- What is wrong with a token with which the grammar goes on: it is a bracket inside too many others, or stands behind too many tokens of the
 -- expression of a clause (docs/formats/contracts.md).
-use Rattle.std.specs.Prelude.{ℕ, ◌+◌, ◌-◌, nat_lt, slice_get, option_and_then, if◌then◌else◌, List, [], ◌∷◌, take, Option, Some, None}
-use Rattle.hw_text.specs.declared.placed.Placed.{Placed}
+use Rattle.std.specs.Prelude.{ℕ, ◌+◌, ◌-◌, nat_lt, slice_get, option_and_then, if◌then◌else◌, [], ◌∷◌, take, Option, Some, None}
 use Rattle.gumbo_parse.specs.declared.flaw.Flaw.{Flaw}
 use Rattle.gumbo_parse.specs.declared.flaw.Flaw.TheVariants.{TooDeep, TooLong}
 use Rattle.gumbo_parse.specs.declared.flaw.Spot.{Spot}

@@ -1,7 +1,7 @@
 -- The grammar of expressions: which tokens spell a tree. Parentheses are no part of it (docs/formats/contracts.md).
 use Rattle.std.specs.Prelude.{◌≡◌, ℕ, Bool, true, false, is_some, List, [], ◌∷◌, ◌++◌, codes, Option, Some, None}
 use Rattle.hw_text.specs.declared.place.Place.{Place}
-use Rattle.hw_text.specs.Language.{One, ◌⋅◌, Maybe, Made, ◌∣◌, Noted}
+use Rattle.hw_text.specs.Language.{One, ◌⋅◌, Maybe, Made}
 use Rattle.gumbo_parse.specs.declared.expression.Named.{Named}
 use Rattle.gumbo_parse.specs.declared.expression.Bound.{Bound}
 use Rattle.gumbo_parse.specs.declared.expression.Selector.{Selector}

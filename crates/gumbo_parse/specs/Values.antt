@@ -16,10 +16,14 @@ use Rattle.gumbo_parse.specs.Words.{word_spelling}
 abbrev pub Tokens : Type 0
 Tokens = List (Placed Token)
 
+-- the name behind which a base type stands
+abbrev pub is_base_package : List ℕ → Bool
+is_base_package n = bytes_eq n (codes "base_types")
+
 -- the spelling of a word or mark, and the kind of another token; the name `base_types` has a shape of its own, since behind it stands a
 -- base type in a class
 abbrev pub shape : Token → List ℕ
-shape (token.Name n) = if bytes_eq n (codes "base_types") then codes "base_types" else codes "NAME"
+shape (token.Name n) = if is_base_package n then codes "base_types" else codes "NAME"
 shape (token.Word w) = word_spelling w
 shape token.Reserved = codes "RESERVED"
 shape (token.Number v) = codes "INT"
@@ -72,10 +76,6 @@ name_of t = name_in t.token t.place
 
 abbrev pub name_shapes : List (List ℕ)
 name_shapes = codes "NAME" ∷ codes "base_types" ∷ []
-
--- a name that is not `base_types`
-abbrev pub other_of : Placed Token → Option Named
-other_of t = if one_of (codes "NAME" ∷ []) t then name_of t else None
 
 -- a whole number, and where it stands
 abbrev pub number_in : Token → Place → Option (Place × ℕ)

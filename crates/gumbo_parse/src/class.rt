@@ -4,6 +4,7 @@ ghost use Rattle.std.specs.Prelude.{◌≡◌};
 ghost use Rattle.gumbo_parse.specs.Classes.{base_text};
 ghost use Rattle.gumbo_parse.specs.Values.{base_name, base_among, all_bases};
 
+use crate::class_name::ClassName;
 use crate::expression::Named;
 use crate::identifier::Identifier;
 use hw_text::{Place, Rows};
@@ -91,10 +92,10 @@ impl BaseType {
 }
 
 /// A type of the model's own: names with `::` between them, and maybe an implementation's name
-/// behind a dot. The grammar has the first be another name than `base_types`.
+/// behind a dot.
 #[derive(Debug, Drop)]
 pub struct ModelType {
-    pub first: Named,
+    pub first: ClassName,
     pub others: Rows<Identifier>,
     pub implementation: Option<Identifier>,
 }

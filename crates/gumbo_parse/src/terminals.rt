@@ -3,9 +3,11 @@
 ghost use Rattle.std.specs.Prelude.{◌≡◌, [], ◌∷◌, codes, refl, Some, IfOk};
 ghost use Rattle.gumbo_parse.specs.declared.class.BaseType.TheVariants.{Unsigned8};
 ghost use Rattle.gumbo_parse.specs.declared.token.Token.TheVariants as token;
-ghost use Rattle.gumbo_parse.specs.Values.{shape, name_shapes, name_of, other_of, number_of, text_of, base_of, base_name, start};
+ghost use Rattle.gumbo_parse.specs.ClassNames.{other_of};
+ghost use Rattle.gumbo_parse.specs.Values.{shape, name_shapes, name_of, number_of, text_of, base_of, base_name, start};
 
 use crate::class::BaseType;
+use crate::class_name::ClassName;
 use crate::description::Description;
 use crate::expression::Named;
 use crate::integer::Integer;
@@ -53,17 +55,16 @@ impl Terminal for NameAt {
 pub struct OtherNameAt;
 
 impl Terminal for OtherNameAt {
-    type Value = Named;
+    type Value = ClassName;
 
     ghost value = { other_of };
 
     ghost shapes = { codes "NAME" ∷ [] };
 
     fn value(_alloc: Global, token: &Placed<Token>) -> Result<Option<Self::Value>, NoMemory> {
-        if shape(&token.token) == "NAME" {
-            name_of(token)
-        } else {
-            Ok(None)
+        match &token.token {
+            Token::Name(name) => Ok(ClassName::of(name.copy()?, token.place)),
+            _ => Ok(None),
         }
     }
 
@@ -71,7 +72,7 @@ impl Terminal for OtherNameAt {
         shape(&token.token) == "NAME"
     }
 
-    ghost sample = { (record { token = token.Name (codes "a"); place = start }, record { name = codes "a"; place = start }, refl) };
+    ghost sample = { (record { token = token.Name (codes "a"); place = start }, record { name = codes "a"; place = start; other = refl }, refl) };
 }
 
 /// A whole number, and where it stands.

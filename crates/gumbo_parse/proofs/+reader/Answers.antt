@@ -1,16 +1,14 @@
-use Rattle.std.proofs.Common.{◌≡◌, ◌∙◌, refl, sym, ap, subst, arith, ℕ, List, [], ◌∷◌, ◌++◌, codes, append_assoc, append-nil, true, false}
+use Rattle.std.proofs.Common.{◌∙◌, sym, ap, arith, List, [], ◌∷◌, ◌++◌, append_assoc, append-nil}
 use Rattle.hw_text.specs.Language.{Each}
-use Rattle.hw_text.specs.Reading.{Anything, Leaves, Reached, Reads}
+use Rattle.hw_text.specs.Reading.{Anything}
 use Rattle.hw_text.proofs.Reading.{rebuilt}
-use Rattle.gumbo_parse.specs.declared.expression.Expression.{Expression}
 use Rattle.gumbo_parse.specs.declared.expression.Selector.{Selector}
-use Rattle.gumbo_parse.specs.declared.level.Level.{Level}
 use Rattle.gumbo_parse.specs.declared.level.Level.TheVariants as level
 use Rattle.gumbo_parse.specs.declared.mark.Mark.TheVariants as mark
-use Rattle.gumbo_parse.specs.Grammar.{Spells, SpellsOperation, SpellsOperand, SpellsNumber, SpellsTruth, SpellsTest, SpellsValue, SpellsBefore, SpellsMustSend, SpellsParenthesised, SpellsQuantified, SpellsField, SpellsParts, SpellsPart, SpellsIndex, chained, joined}
-use Rattle.gumbo_parse.specs.Levels.{next, right, form_of, infixes, prefixes, goes_on, part_shapes, Ends}
+use Rattle.gumbo_parse.specs.Grammar.{Spells, SpellsOperation, SpellsOperand, SpellsNumber, SpellsTruth, SpellsTest, SpellsValue, SpellsBefore, SpellsMustSend, SpellsParenthesised, SpellsQuantified, SpellsField, SpellsParts, SpellsPart, SpellsIndex, chained}
+use Rattle.gumbo_parse.specs.Levels.{next, right, infixes, prefixes, goes_on, part_shapes, Ends}
 use Rattle.gumbo_parse.specs.Marks.{mark_spelling}
-use Rattle.gumbo_parse.specs.Values.{Tokens, Without, texts}
+use Rattle.gumbo_parse.specs.Values.{Without, texts}
 use Rattle.gumbo_parse.proofs.Choices.{handed, same, first_of, second_of, no_option, an_option, no_member, a_member, no_members, nothing, members-follow, maybe-follows, opened_as, read-shorter, no-longer}
 use Rattle.gumbo_parse.proofs.LevelFacts.{starts, ends-next, ends-infix, ends-right, ends-operand, apart-next, apart-right, apart-prefix}
 use Rattle.gumbo_parse.proofs.LevelForms.{UnaryForm, operand-opened, operand-shut, operation-begins, chain_opening, pair_opening, prefix_opening, operation_opening, spells-begins, unary-begins}

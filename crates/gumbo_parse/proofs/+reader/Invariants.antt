@@ -1,4 +1,4 @@
-use Rattle.std.proofs.Common.{[], ◌++◌, ◌+◌, ◌*◌, ◌≤◌, length}
+use Rattle.std.proofs.Common.{◌++◌, ◌+◌, ◌*◌, ◌≤◌, length}
 use Rattle.hw_text.specs.Language.{Each}
 use Rattle.hw_text.specs.Reading.{Leaves}
 use Rattle.gumbo_parse.specs.Grammar.{Spells, chained, SpellsOperation, SpellsParts, SpellsPart}

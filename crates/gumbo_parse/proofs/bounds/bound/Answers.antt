@@ -1,8 +1,3 @@
-use Rattle.std.proofs.Common.{sym, subst, ap, ◌≡◌, ◌∙◌}
-use Rattle.std.specs.Prelude.{is_some}
-use Rattle.hw_text.specs.Reading.{Anything, Reached}
-use Rattle.gumbo_parse.specs.declared.expression.Bound.{Bound}
-use Rattle.gumbo_parse.specs.Grammar.{SpellsBound}
 use Rattle.gumbo_parse.proofs.BoundForms.{a_number, bound_opening, number-follows}
 use Rattle.gumbo_parse.proofs.Steps.{next_before, halt_before, final, final_halt}
 use Rattle.gumbo_parse.proofs.bounds.bound.Goals as goal

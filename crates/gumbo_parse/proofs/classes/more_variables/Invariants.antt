@@ -1,4 +1,4 @@
-use Rattle.std.proofs.Common.{[], ◌∷◌, ◌++◌, length}
+use Rattle.std.proofs.Common.{length}
 use Rattle.gumbo_parse.specs.Classes.{SpellsVariable}
 use Rattle.gumbo_parse.specs.Values.{name_shapes}
 use Rattle.gumbo_parse.proofs.Lists.{Members}

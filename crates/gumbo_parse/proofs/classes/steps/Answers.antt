@@ -1,6 +1,5 @@
-use Rattle.std.proofs.Common.{◌∙◌, refl, sym, ap, subst, ℕ, List, [], ◌∷◌, ◌++◌, append-nil, append_assoc}
+use Rattle.std.proofs.Common.{◌∙◌, sym, ap, ℕ, List, [], ◌∷◌, ◌++◌, append-nil, append_assoc}
 use Rattle.hw_text.specs.Language.{Each}
-use Rattle.hw_text.specs.Reading.{Leaves}
 use Rattle.hw_text.proofs.Reading.{rebuilt}
 use Rattle.gumbo_parse.specs.declared.mark.Mark.TheVariants as mark
 use Rattle.gumbo_parse.specs.Classes.{SpellsStep}

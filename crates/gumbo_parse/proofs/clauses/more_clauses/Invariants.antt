@@ -1,4 +1,4 @@
-use Rattle.std.proofs.Common.{[], ◌∷◌, ◌++◌, length}
+use Rattle.std.proofs.Common.{length}
 use Rattle.gumbo_parse.specs.Annex.{kinds, SpellsClause}
 use Rattle.gumbo_parse.specs.Values.{texts}
 use Rattle.gumbo_parse.proofs.Lists.{Members}

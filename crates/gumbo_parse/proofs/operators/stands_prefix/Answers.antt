@@ -1,4 +1,4 @@
-use Rattle.std.proofs.Common.{◌∙◌, sym, ap}
+use Rattle.std.proofs.Common.{◌∙◌, ap}
 use Rattle.std.specs.Prelude.{is_some}
 use Rattle.gumbo_parse.specs.Levels.{prefixes}
 use Rattle.gumbo_parse.proofs.Shapes.{listed-ahead}

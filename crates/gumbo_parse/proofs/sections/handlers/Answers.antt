@@ -1,4 +1,4 @@
-use Rattle.std.proofs.Common.{◌∙◌, refl, sym, ap, List, [], ◌∷◌, ◌++◌, append-nil, append_assoc}
+use Rattle.std.proofs.Common.{◌∙◌, sym, ap, List, [], ◌∷◌, ◌++◌, append-nil, append_assoc}
 use Rattle.hw_text.specs.Language.{Each}
 use Rattle.hw_text.proofs.Reading.{rebuilt}
 use Rattle.gumbo_parse.specs.declared.contract.Handler.{Handler}

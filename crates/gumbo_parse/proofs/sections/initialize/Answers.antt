@@ -1,4 +1,4 @@
-use Rattle.std.proofs.Common.{sym, ◌∙◌, [], ◌∷◌, ◌++◌}
+use Rattle.std.proofs.Common.{sym, ◌∙◌}
 use Rattle.hw_text.specs.Language.{One}
 use Rattle.gumbo_parse.specs.Annex.{kinds, initial, SpellsClause}
 use Rattle.gumbo_parse.specs.Values.{texts, one_listed}

@@ -6,8 +6,8 @@ use Rattle.std.proofs.Common.{Err}
 use Rattle.gumbo_parse.specs.declared.token.Token.{Token}
 use Rattle.hw_text.specs.Reading.{TheEnd}
 use Rattle.gumbo_parse.specs.Annex.{SpellsContract}
-use Rattle.gumbo_parse.specs.Whole.{GoesNoFurther}
-use Rattle.gumbo_parse.proofs.Wholes.{all-read, read-further, stuck-further}
+use Rattle.hw_text.specs.WholeLists.{GoesNoFurther}
+use Rattle.hw_text.proofs.WholeLists.{all-read, read-further, stuck-further}
 use Rattle.gumbo_parse.proofs.whole.read_whole.Goals as goal
 
 pub returns-then-left-eq0 : goal.returns-then-left-eq0

@@ -2,7 +2,7 @@ use Rattle.std.proofs.Common.{◌∙◌, ap}
 use Rattle.std.specs.Prelude.{is_some}
 use Rattle.std.specs.Str.{bytes_eq}
 use Rattle.std.specs.List.{list_any}
-use Rattle.gumbo_parse.specs.Values.{texts, listed}
+use Rattle.gumbo_parse.specs.Values.{texts}
 use Rattle.gumbo_parse.proofs.Shapes.{listed-some}
 use Rattle.gumbo_parse.proofs.table.ListedTerminal.is_shaped.Goals as goal
 
