@@ -1,10 +1,8 @@
 -- What has been read of an argument, and of the arguments of a call, step by step.
-use Rattle.std.proofs.Common.{◌≡◌, ◌∙◌, refl, sym, ap, subst, List, [], ◌∷◌, ◌++◌, Bool, true, false, append_assoc, append-nil, length, ◌<◌, inl, inr}
-use Rattle.std.specs.Prelude.{⊤}
-use Rattle.std.proofs.lemmas.Bool.{false≢true}
-use Rattle.hw_text.specs.Language.{Nothing, ◌⋅◌, Each, Made, ◌∣◌}
-use Rattle.hw_text.specs.Reading.{first, begins, Begins, Anything, BeginsWith, Reached, Stuck, Leaves}
-use Rattle.hw_text.proofs.Reading.{refined, rebuilt, unmade, left, right, more, no_more, ended, step, stuck, last, last-stuck, first-begins, never-begins, made-begins, then-begins, either-begins}
+use Rattle.std.proofs.Common.{◌≡◌, ◌∙◌, refl, [], ◌++◌, Bool, true, false, length, ◌<◌, inr}
+use Rattle.hw_text.specs.Language.{◌⋅◌, Made}
+use Rattle.hw_text.specs.Reading.{begins, Begins, Anything, Reached, Stuck, Leaves}
+use Rattle.hw_text.proofs.Reading.{unmade, left, right, last, last-stuck, made-begins, then-begins}
 use Rattle.hw_text.specs.declared.place.Place.{Place}
 use Rattle.hw_text.specs.declared.placed.Placed.{Placed}
 use Rattle.c_tree.specs.declared.named.Named.{Named}
@@ -18,10 +16,10 @@ use Rattle.c_parse.specs.declared.mark.Mark.{Mark}
 use Rattle.c_parse.specs.declared.mark.Mark.TheVariants as mark
 use Rattle.c_parse.specs.Values.{Tokens, is_mark}
 use Rattle.c_parse.specs.Levels.{loosest_level}
-use Rattle.c_parse.specs.Operators.{Ends, goes_on}
+use Rattle.c_parse.specs.Operators.{Ends}
 use Rattle.c_parse.specs.Forms.{form_of_mark}
 use Rattle.c_parse.specs.ExpressionGrammar.{Sign, Name, SpellsWhole}
-use Rattle.c_parse.specs.CallGrammar.{BehindComma, Separated, SpellsArgument, address}
+use Rattle.c_parse.specs.CallGrammar.{BehindComma, SpellsArgument, address}
 use Rattle.c_parse.proofs.TokenKinds.{not-there, none-there}
 use Rattle.c_parse.proofs.MarkTokens.{sign-begins-so}
 use Rattle.c_parse.proofs.FormTokens.{mark-form}

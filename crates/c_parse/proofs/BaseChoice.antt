@@ -1,10 +1,8 @@
 -- What an lvalue may begin with, by the token ahead.
 use Rattle.std.proofs.Common.{◌≡◌, ◌∙◌, refl, sym, ap, ◌++◌, Bool, true, false, inl, inr}
 use Rattle.hw_text.specs.Language.{◌⋅◌, Made}
-use Rattle.hw_text.specs.Reading.{first, Anything, Leaves}
+use Rattle.hw_text.specs.Reading.{first, Leaves}
 use Rattle.hw_text.proofs.Reading.{refined}
-use Rattle.hw_text.specs.declared.place.Place.{Place}
-use Rattle.c_tree.specs.declared.named.Named.{Named}
 use Rattle.c_tree.specs.declared.expression.Base.{Base}
 use Rattle.c_tree.specs.declared.expression.Base.TheVariants as base
 use Rattle.c_parse.specs.declared.form.Form.TheVariants as form
@@ -12,7 +10,7 @@ use Rattle.c_parse.specs.declared.mark.Mark.TheVariants as mark
 use Rattle.c_parse.specs.Forms.{form_ahead}
 use Rattle.c_parse.specs.Values.{Tokens}
 use Rattle.c_parse.specs.ExpressionGrammar.{Sign, Name, InFull, SpellsBase, pointed, member}
-use Rattle.c_parse.specs.PartGrammar.{SpellsNamedBase, SpellsPointed, SpellsPointedBase}
+use Rattle.c_parse.specs.PartGrammar.{SpellsNamedBase, SpellsPointedBase}
 use Rattle.c_parse.proofs.Pieces.{whole, never-in-full}
 use Rattle.c_parse.proofs.FormTokens.{name-begins, sign-begins, first-form, behind-form, not-so}
 use Rattle.c_parse.proofs.BaseTexts.{NoArrow, Pointer}

@@ -1,7 +1,6 @@
 -- What has been read of what lvalues begin with, and of what stands behind the `(` of casts, step by step.
-use Rattle.std.proofs.Common.{◌≡◌, ◌∙◌, refl, sym, ap, subst, [], ◌∷◌, ◌++◌, Bool, true, false, append-nil, inl, inr}
+use Rattle.std.proofs.Common.{◌≡◌, ◌∙◌, refl, sym, ap, subst, [], ◌++◌, Bool, true, false, append-nil, inl, inr}
 use Rattle.std.specs.Prelude.{⊤}
-use Rattle.std.proofs.lemmas.Bool.{false≢true}
 use Rattle.hw_text.specs.Language.{One, Nothing, ◌⋅◌, Made, ◌∣◌}
 use Rattle.hw_text.specs.Reading.{first, begins, Begins, Anything, BeginsWithout, Reached, Stuck, Leaves}
 use Rattle.hw_text.proofs.Reading.{refined, unmade, left, right, ended, step, stuck, never-follows, one-begins, made-begins, then-begins}

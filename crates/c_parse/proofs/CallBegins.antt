@@ -1,26 +1,21 @@
 -- With which two tokens calls begin, and expressions do not.
-use Rattle.std.proofs.Common.{◌≡◌, ◌∙◌, refl, sym, ap, ℕ, ◌+◌, List, [], ◌∷◌, ◌++◌, Bool, true, false, ◌&&◌, append_assoc, Option, Some, None, inl, inr}
-use Rattle.std.specs.Prelude.{is_some}
-use Rattle.std.proofs.lemmas.Bool.{false≢true}
-use Rattle.hw_text.specs.Language.{One}
+use Rattle.std.proofs.Common.{◌≡◌, ◌∙◌, refl, sym, ap, ℕ, ◌+◌, List, [], ◌∷◌, ◌++◌, Bool, true, false, ◌&&◌, append_assoc, Some, inl, inr}
 use Rattle.hw_text.specs.Reading.{begins}
 use Rattle.hw_text.specs.declared.place.Place.{Place}
 use Rattle.hw_text.specs.declared.placed.Placed.{Placed}
 use Rattle.c_tree.specs.declared.named.Named.{Named}
 use Rattle.c_tree.specs.declared.operator.BinaryOperator.{BinaryOperator}
 use Rattle.c_tree.specs.declared.expression.Call.{Call}
-use Rattle.c_tree.specs.declared.expression.Base.{Base}
 use Rattle.c_tree.specs.declared.expression.Selector.{Selector}
 use Rattle.c_tree.specs.declared.expression.Lvalue.{Lvalue}
 use Rattle.c_tree.specs.declared.expression.Expression.{Expression}
 use Rattle.c_parse.specs.declared.token.Token.{Token}
-use Rattle.c_parse.specs.declared.token.Token.TheVariants as token
 use Rattle.c_parse.specs.declared.form.Form.{Form}
 use Rattle.c_parse.specs.declared.form.Form.TheVariants as form
 use Rattle.c_parse.specs.declared.mark.Mark.TheVariants as mark
 use Rattle.c_parse.specs.Values.{Tokens, name_of, is_name, mark_of, is_mark}
 use Rattle.c_parse.specs.Operators.{operator_in, of_level, binary_at}
-use Rattle.c_parse.specs.Forms.{form_in, form_ahead}
+use Rattle.c_parse.specs.Forms.{form_ahead}
 use Rattle.c_parse.specs.ExpressionGrammar.{Name, Operation, SpellsExpression, SpellsOperations, SpellsPrefix, SpellsLvalue, SpellsParts, chain, prefix, no_operation, an_operation, number, truth, value, parenthesised, unary, cast, lvalue, no_part, a_member, an_index}
 use Rattle.c_parse.specs.CallGrammar.{SpellsCall}
 use Rattle.c_parse.proofs.TokenKinds.{none-some, some-is}

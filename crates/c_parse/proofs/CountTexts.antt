@@ -1,15 +1,13 @@
 -- What has been read of a range, step by step.
-use Rattle.std.proofs.Common.{◌≡◌, ◌∙◌, refl, sym, ap, subst, Bool, true, List, ℕ, [], ◌∷◌, ◌++◌, append_assoc, Some, inl}
+use Rattle.std.proofs.Common.{◌≡◌, ◌∙◌, refl, sym, ap, subst, Bool, List, ℕ, [], ◌∷◌, ◌++◌, append_assoc, Some, inl}
 use Rattle.std.proofs.lemmas.Slice.Eq.{bytes_eq-Decides}
 use Rattle.hw_text.specs.declared.place.Place.{Place}
 use Rattle.hw_text.specs.declared.placed.Placed.{Placed}
-use Rattle.hw_text.specs.Language.{◌⋅◌, Made, One}
-use Rattle.hw_text.specs.Reading.{first, begins, Begins, Anything, Reached, Stuck, Leaves}
+use Rattle.hw_text.specs.Language.{◌⋅◌, One}
+use Rattle.hw_text.specs.Reading.{begins, Begins, Anything, Reached, Stuck, Leaves}
 use Rattle.hw_text.proofs.Reading.{made-begins, then-begins}
 use Rattle.c_tree.specs.declared.integer_type.IntegerType.TheVariants.{I8}
-use Rattle.c_tree.specs.declared.statement.Statement.{Statement}
 use Rattle.c_parse.specs.declared.counting.CountStart.{CountStart}
-use Rattle.c_parse.specs.declared.counting.CountEnd.{CountEnd}
 use Rattle.c_parse.specs.declared.token.Token.{Token}
 use Rattle.c_parse.specs.declared.token.Token.TheVariants as token
 use Rattle.c_parse.specs.declared.keyword.Keyword.TheVariants as keyword

@@ -7,8 +7,6 @@ use Rattle.hw_text.specs.declared.place.Place.{Place}
 use Rattle.hw_text.specs.declared.placed.Placed.{Placed}
 use Rattle.hw_text.specs.Language.{One}
 use Rattle.hw_text.specs.Reading.{first, begins}
-use Rattle.c_tree.specs.declared.integer_type.IntegerType.{IntegerType}
-use Rattle.c_tree.specs.declared.integer_type.IntegerType.TheVariants as integer
 use Rattle.c_tree.specs.declared.operator.UnaryOperator.{UnaryOperator}
 use Rattle.c_tree.specs.declared.named.Named.{Named}
 use Rattle.c_tree.specs.declared.named.Literal.{Literal}
@@ -19,7 +17,7 @@ use Rattle.c_parse.specs.declared.mark.Mark.{Mark}
 use Rattle.c_parse.specs.declared.mark.Mark.TheVariants as mark
 use Rattle.c_parse.specs.declared.form.Form.{Form}
 use Rattle.c_parse.specs.declared.form.Form.TheVariants as form
-use Rattle.c_parse.specs.Values.{Tokens, mark_of, is_mark, name_in, name_of, is_name, literal_in, literal_of, truth_in, truth_of, integer_in, integer_of, is_integer}
+use Rattle.c_parse.specs.Values.{Tokens, mark_of, is_mark, name_in, name_of, is_name, literal_in, literal_of, truth_in, truth_of, integer_in, is_integer}
 use Rattle.c_parse.specs.Operators.{unary_in, unary_of}
 use Rattle.c_parse.specs.Forms.{form_in, form_of_mark, form_ahead}
 use Rattle.c_parse.specs.ExpressionGrammar.{Sign}

@@ -1,16 +1,13 @@
 -- Headings: texts of their parts, and what stands behind which.
-use Rattle.std.proofs.Common.{◌≡◌, ◌∙◌, refl, sym, ap, Bool, true, false, ◌++◌, List, [], append_assoc, Some, None, inl, inr}
-use Rattle.std.specs.Prelude.{⊤, not}
+use Rattle.std.proofs.Common.{◌≡◌, ◌∙◌, refl, sym, ap, Bool, true, false, ◌++◌, [], append_assoc, Some, None, inl, inr}
+use Rattle.std.specs.Prelude.{⊤}
 use Rattle.hw_text.specs.declared.placed.Placed.{Placed}
-use Rattle.hw_text.specs.declared.place.Place.{Place}
-use Rattle.hw_text.specs.Language.{Nothing, ◌⋅◌, ◌∣◌, Made, One}
+use Rattle.hw_text.specs.Language.{Nothing, ◌⋅◌, Made}
 use Rattle.hw_text.specs.Reading.{first, begins, Begins, Anything, BeginsWithout, Reached, Leaves}
-use Rattle.hw_text.proofs.Reading.{made-begins, then-begins, either-begins, first-begins, ended, never-follows}
-use Rattle.c_tree.specs.declared.type_name.TypeName.{TypeName}
-use Rattle.c_tree.specs.declared.named.Named.{Named}
+use Rattle.hw_text.proofs.Reading.{made-begins, then-begins, either-begins, ended, never-follows}
 use Rattle.c_parse.specs.declared.token.Token.{Token}
 use Rattle.c_parse.specs.declared.keyword.Keyword.TheVariants as keyword
-use Rattle.c_parse.specs.Values.{Tokens, is_word, integer_of}
+use Rattle.c_parse.specs.Values.{Tokens, is_word}
 use Rattle.c_parse.specs.ExpressionGrammar.{Name}
 use Rattle.c_parse.specs.CallGrammar.{Word, SpellsType}
 use Rattle.c_parse.specs.UnitGrammar.{SpellsStatic, SpellsResult, SpellsHeading, heading_of}

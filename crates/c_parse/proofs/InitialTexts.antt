@@ -1,22 +1,20 @@
 -- What a file-scope variable begins with, by the token that stands ahead.
-use Rattle.std.proofs.Common.{◌≡◌, refl, Bool, true, false, List, ◌∷◌, []}
-use Rattle.std.specs.Prelude.{⊤, not}
-use Rattle.hw_text.specs.declared.place.Place.{Place}
+use Rattle.std.proofs.Common.{◌≡◌, refl, Bool, true, false}
+use Rattle.std.specs.Prelude.{⊤}
 use Rattle.hw_text.specs.declared.placed.Placed.{Placed}
-use Rattle.hw_text.specs.Language.{◌⋅◌, ◌∣◌, Made, One}
+use Rattle.hw_text.specs.Language.{◌⋅◌, Made, One}
 use Rattle.hw_text.specs.Reading.{begins, Begins, Anything, Leaves}
-use Rattle.hw_text.proofs.Reading.{made-begins, then-begins, either-begins}
-use Rattle.c_tree.specs.declared.item.InitialValue.{InitialValue}
+use Rattle.hw_text.proofs.Reading.{made-begins, then-begins}
 use Rattle.c_tree.specs.declared.item.InitialValue.TheVariants as initial
 use Rattle.c_parse.specs.declared.token.Token.{Token}
 use Rattle.c_parse.specs.declared.mark.Mark.TheVariants as mark
-use Rattle.c_parse.specs.Values.{Tokens, is_mark, is_truth, is_name, truth_of, zero_of, literal_of}
+use Rattle.c_parse.specs.Values.{Tokens, is_mark, is_truth, is_name, truth_of, zero_of}
 use Rattle.c_parse.specs.ExpressionGrammar.{Sign, Name}
 use Rattle.c_parse.specs.CallGrammar.{SpellsSigned}
 use Rattle.c_parse.specs.PlainGrammar.{SpellsZeros}
 use Rattle.c_parse.specs.UnitGrammar.{SpellsInitial, initial_truth}
 use Rattle.c_parse.proofs.Steps.{all_left, at_first, at_second, unmake, by_test, either_way, Excluded}
-use Rattle.c_parse.proofs.Leaves.{sign_begins, name_begins, this_sign, truth_begins, literal_begins, signed_begins}
+use Rattle.c_parse.proofs.Leaves.{name_begins, this_sign, truth_begins, signed_begins}
 
 zeros_begin : (test : Placed Token → Bool) (so : Bool) → Begins test so (Sign mark.OpenBrace) → Begins test so (Made (λ (u : ⊤). initial.Zero) SpellsZeros)
 zeros_begin test so is = made-begins test so SpellsZeros (λ u. initial.Zero)

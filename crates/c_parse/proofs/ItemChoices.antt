@@ -1,15 +1,14 @@
 -- Which item stands ahead, and what has been read of it, step by step.
-use Rattle.std.proofs.Common.{◌≡◌, ◌∙◌, refl, sym, ap, subst, ℕ, ◌<◌, ◌≤◌, length, arith, Bool, true, false, ◌&&◌, ◌++◌, List, [], ◌∷◌, append_assoc, Option, Some, None, inl, inr}
-use Rattle.std.specs.Prelude.{not, is_some, Result}
+use Rattle.std.proofs.Common.{◌≡◌, ◌∙◌, refl, sym, ap, subst, ℕ, ◌<◌, ◌≤◌, length, arith, Bool, true, false, ◌&&◌, ◌++◌, [], ◌∷◌, append_assoc, Option, Some, None, inl, inr}
+use Rattle.std.specs.Prelude.{is_some, Result}
 use Rattle.hw_text.specs.declared.placed.Placed.{Placed}
 use Rattle.hw_text.specs.declared.place.Place.{Place}
 use Rattle.hw_text.specs.declared.read_fault.ReadFault.{ReadFault}
-use Rattle.hw_text.specs.Language.{◌⋅◌, ◌∣◌, Made, Maybe, One, Each}
-use Rattle.hw_text.specs.Reading.{first, begins, Begins, Anything, TheEnd, Reached, Stuck, Reads, Leaves}
+use Rattle.hw_text.specs.Language.{◌⋅◌, ◌∣◌, Made, One}
+use Rattle.hw_text.specs.Reading.{begins, Begins, Anything, TheEnd, Reached, Stuck, Reads, Leaves}
 use Rattle.hw_text.proofs.Reading.{made-begins, then-begins, maybe-begins}
 use Rattle.c_tree.specs.declared.type_name.TypeName.{TypeName}
 use Rattle.c_tree.specs.declared.named.Named.{Named}
-use Rattle.c_tree.specs.declared.named.Literal.{Literal}
 use Rattle.c_tree.specs.declared.item.InitialValue.{InitialValue}
 use Rattle.c_tree.specs.declared.item.Item.{Item}
 use Rattle.c_tree.specs.declared.item.Item.TheVariants as item
@@ -19,8 +18,8 @@ use Rattle.c_parse.specs.declared.token.Token.TheVariants as token
 use Rattle.c_parse.specs.declared.keyword.Keyword.{Keyword}
 use Rattle.c_parse.specs.declared.keyword.Keyword.TheVariants as keyword
 use Rattle.c_parse.specs.declared.mark.Mark.TheVariants as mark
-use Rattle.c_parse.specs.Values.{Tokens, is_word, is_mark, literal_of, integer_of}
-use Rattle.c_parse.specs.ExpressionGrammar.{Sign, Name, InFull}
+use Rattle.c_parse.specs.Values.{Tokens, is_word, is_mark, literal_of}
+use Rattle.c_parse.specs.ExpressionGrammar.{Sign, InFull}
 use Rattle.c_parse.specs.CallGrammar.{Word, SpellsType}
 use Rattle.c_parse.specs.TypedefGrammar.{SpellsLength, length_of, SpellsTypedef}
 use Rattle.c_parse.specs.UnitGrammar.{SpellsInitial, SpellsHeading, VariableBehind, variable_of, SpellsParameters, SpellsEnding, FunctionBehind, function_of, ItemBehind, SpellsDeclared, SpellsItem, SpellsExternal, SpellsPointer}

@@ -1,36 +1,25 @@
 -- Items: texts of their parts, and which stands ahead.
-use Rattle.std.proofs.Common.{◌≡◌, ◌∙◌, refl, sym, ap, subst, Bool, true, false, ◌&&◌, ◌++◌, List, [], ◌∷◌, append_assoc, Option, Some, None, inl, inr}
-use Rattle.std.specs.Prelude.{⊤, not, is_some}
+use Rattle.std.proofs.Common.{◌≡◌, refl, subst, Bool, true, false, ◌&&◌, ◌++◌, List, [], Option, Some, None, inl, inr}
 use Rattle.hw_text.specs.declared.placed.Placed.{Placed}
 use Rattle.hw_text.specs.declared.place.Place.{Place}
-use Rattle.hw_text.specs.Language.{Nothing, ◌⋅◌, ◌∣◌, Made, Maybe, One, Each}
-use Rattle.hw_text.specs.Reading.{first, begins, Begins, Anything, BeginsWith, BeginsWithout, TheEnd, Reached, Stuck, Reads, Leaves}
+use Rattle.hw_text.specs.Language.{◌⋅◌, Made, Maybe}
+use Rattle.hw_text.specs.Reading.{begins, Begins, Anything, BeginsWith, BeginsWithout, Reached, Stuck, Leaves}
 use Rattle.hw_text.proofs.Reading.{made-begins, then-begins, maybe-begins}
-use Rattle.c_tree.specs.declared.type_name.TypeName.{TypeName}
-use Rattle.c_tree.specs.declared.named.Named.{Named}
-use Rattle.c_tree.specs.declared.named.Literal.{Literal}
 use Rattle.c_tree.specs.declared.item.InitialValue.{InitialValue}
 use Rattle.c_tree.specs.declared.statement.Statement.{Statement}
-use Rattle.c_tree.specs.declared.item.Item.{Item}
-use Rattle.c_tree.specs.declared.item.Item.TheVariants as item
-use Rattle.c_parse.specs.declared.headings.Heading.{Heading}
 use Rattle.c_parse.specs.declared.token.Token.{Token}
 use Rattle.c_parse.specs.declared.keyword.Keyword.TheVariants as keyword
 use Rattle.c_parse.specs.declared.mark.Mark.TheVariants as mark
-use Rattle.c_parse.specs.Values.{Tokens, is_word, is_mark, integer_of}
+use Rattle.c_parse.specs.Values.{Tokens, is_mark}
 use Rattle.c_parse.specs.Operators.{RightEnds, right_goes_on}
-use Rattle.c_parse.specs.ExpressionGrammar.{Sign, Name, InFull}
-use Rattle.c_parse.specs.CallGrammar.{Word, SpellsType, SpellsRightSide}
-use Rattle.c_parse.specs.TypedefGrammar.{SpellsLength, SpellsTypedef}
+use Rattle.c_parse.specs.ExpressionGrammar.{Sign}
+use Rattle.c_parse.specs.CallGrammar.{Word, SpellsRightSide}
 use Rattle.c_parse.specs.StatementGrammar.{SpellsStatements, ends_body}
-use Rattle.c_parse.specs.UnitGrammar.{SpellsInitial, SpellsHeading, VariableBehind, variable_of, Body, SpellsBody, SpellsEnding, SpellsParameters, FunctionBehind, ItemBehind, SpellsDeclared, SpellsItem, SpellsExternal, SpellsPointer}
-use Rattle.c_parse.proofs.TypedefTexts.{type_begins}
+use Rattle.c_parse.specs.UnitGrammar.{SpellsInitial, SpellsBody, SpellsEnding, SpellsParameters}
 use Rattle.c_parse.proofs.RightTexts.{a_right}
 use Rattle.c_parse.proofs.StatementTexts.{no_statements}
-use Rattle.c_parse.proofs.HeadingTexts.{a_heading, heading_begins, result_begins}
-use Rattle.c_parse.proofs.Lists.{Listed, any_token}
-use Rattle.c_parse.proofs.Steps.{Sample, both, sample_of, all_left, at_first, at_second, unmake, in_full, by_test, by_full, either_way, and_left, and_right, is_there, is_absent, stuck_by, passed_by}
-use Rattle.c_parse.proofs.Leaves.{the_sign, the_word, the_name, sign_begins, word_begins, name_begins, integer_begins, this_sign, this_word}
+use Rattle.c_parse.proofs.Steps.{Sample, both, sample_of, all_left, at_first, at_second, unmake, in_full, by_test, by_full, and_left, and_right, is_there, is_absent, stuck_by, passed_by}
+use Rattle.c_parse.proofs.Leaves.{the_sign, the_word, the_name, sign_begins, word_begins, this_sign}
 
 abbrev pub Given : Option InitialValue → Tokens → Type 0
 Given = Maybe (Made (λ (p : Place × InitialValue). p.1) (Sign mark.Assign ⋅ SpellsInitial))

@@ -1,5 +1,5 @@
 -- Texts of one token, and with which tokens they begin.
-use Rattle.std.proofs.Common.{◌≡◌, ◌∙◌, refl, sym, ap, List, [], ◌∷◌, ◌++◌, ℕ, Bool, true, false, Option, Some, None}
+use Rattle.std.proofs.Common.{◌≡◌, ◌∙◌, refl, sym, ap, List, [], ◌∷◌, ℕ, Bool, true, false, Option, Some, None}
 use Rattle.std.specs.Prelude.{codes, is_some}
 use Rattle.std.specs.Str.{bytes_eq}
 use Rattle.std.proofs.lemmas.Bool.{false≢true}
@@ -8,8 +8,8 @@ use Rattle.std.proofs.lemmas.Slice.Eq.{bytes_eq-Decides}
 use Rattle.hw_text.specs.declared.place.Place.{Place}
 use Rattle.hw_text.specs.declared.placed.Placed.{Placed}
 use Rattle.hw_text.specs.Text.{mark_among}
-use Rattle.hw_text.specs.Language.{One, ◌⋅◌, ◌∣◌, Made}
-use Rattle.hw_text.specs.Reading.{begins, Begins}
+use Rattle.hw_text.specs.Language.{One, ◌⋅◌, Made}
+use Rattle.hw_text.specs.Reading.{Begins}
 use Rattle.hw_text.proofs.Reading.{one-begins, made-begins, then-begins, either-begins}
 use Rattle.c_tree.specs.declared.integer_type.IntegerType.{IntegerType}
 use Rattle.c_tree.specs.declared.integer_type.IntegerType.TheVariants as integer
@@ -24,7 +24,7 @@ use Rattle.c_parse.specs.declared.mark.Mark.TheVariants as mark
 use Rattle.c_parse.specs.Tokens.{start}
 use Rattle.c_parse.specs.Keywords.{keyword_text, all_keywords, keyword_among}
 use Rattle.c_parse.specs.Marks.{mark_text, all_marks}
-use Rattle.c_parse.specs.Values.{Tokens, found, mark_of, keyword_of, name_of, literal_of, integer_of, truth_of, zero_of, is_mark, is_word}
+use Rattle.c_parse.specs.Values.{found, mark_of, keyword_of, name_of, literal_of, integer_of, truth_of, zero_of, is_mark, is_word}
 use Rattle.c_parse.specs.ExpressionGrammar.{Sign, Name}
 use Rattle.c_parse.specs.CallGrammar.{Word, SpellsSigned, plain_literal, negative_literal}
 use Rattle.c_parse.proofs.Tokens.{a_sign, a_word}

@@ -1,10 +1,10 @@
 -- Local variables, conditions and what is assigned, by the tokens that stand ahead.
-use Rattle.std.proofs.Common.{◌≡◌, refl, Bool, true, false, ◌++◌, List, [], ◌∷◌, inl, inr}
-use Rattle.std.specs.Prelude.{⊤, not}
+use Rattle.std.proofs.Common.{◌≡◌, refl, Bool, true, false, ◌++◌, inl, inr}
+use Rattle.std.specs.Prelude.{⊤}
 use Rattle.hw_text.specs.declared.placed.Placed.{Placed}
 use Rattle.hw_text.specs.declared.place.Place.{Place}
-use Rattle.hw_text.specs.Language.{◌⋅◌, ◌∣◌, Made, One}
-use Rattle.hw_text.specs.Reading.{begins, Begins, Anything, Reached, Leaves}
+use Rattle.hw_text.specs.Language.{◌⋅◌, Made, One}
+use Rattle.hw_text.specs.Reading.{begins, Begins, Leaves}
 use Rattle.hw_text.proofs.Reading.{made-begins, then-begins}
 use Rattle.c_tree.specs.declared.statement.LocalValue.{LocalValue}
 use Rattle.c_tree.specs.declared.statement.LocalValue.TheVariants as local
@@ -15,7 +15,7 @@ use Rattle.c_parse.specs.Operators.{RightEnds, right_goes_on}
 use Rattle.c_parse.specs.ExpressionGrammar.{Sign}
 use Rattle.c_parse.specs.CallGrammar.{SpellsRightSide}
 use Rattle.c_parse.specs.PlainGrammar.{SpellsZeros, SpellsZeroArray, zero_array, SpellsGiven, SpellsLocalValue}
-use Rattle.c_parse.proofs.Steps.{Sample, both, sample_of, all_left, at_first, at_second, unmake, by_test, passed}
+use Rattle.c_parse.proofs.Steps.{Sample, both, sample_of, all_left, at_first, at_second, unmake, by_test}
 use Rattle.c_parse.proofs.Leaves.{the_sign, the_zero, sign_begins, this_sign}
 use Rattle.c_parse.proofs.RightTexts.{Beginnings, right_begins}
 

@@ -1,8 +1,8 @@
 -- What has been read of an lvalue, and of what leads to a part, step by step.
 use Rattle.std.proofs.Common.{◌≡◌, refl, [], ◌++◌, List, Bool, true, false}
-use Rattle.hw_text.specs.Language.{◌⋅◌, Made, ◌∣◌}
+use Rattle.hw_text.specs.Language.{◌⋅◌, Made}
 use Rattle.hw_text.specs.Reading.{begins, Begins, Anything, Reached, Stuck, Leaves}
-use Rattle.hw_text.proofs.Reading.{begun, unmade, left, right, stuck, one-begins, made-begins, then-begins}
+use Rattle.hw_text.proofs.Reading.{begun, unmade, left, right, one-begins, made-begins, then-begins}
 use Rattle.hw_text.specs.declared.place.Place.{Place}
 use Rattle.hw_text.specs.declared.placed.Placed.{Placed}
 use Rattle.c_tree.specs.declared.named.Named.{Named}

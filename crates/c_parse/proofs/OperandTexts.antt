@@ -1,5 +1,5 @@
 -- What an operand is, by the token ahead.
-use Rattle.std.proofs.Common.{◌≡◌, ◌∙◌, refl, sym, ap, subst, ℕ, ◌+◌, List, [], ◌∷◌, ◌++◌, Bool, true, false, append_assoc, inl, inr}
+use Rattle.std.proofs.Common.{◌≡◌, ◌∙◌, refl, sym, ap, subst, ℕ, ◌+◌, List, ◌++◌, Bool, append_assoc, inl, inr}
 use Rattle.hw_text.specs.Language.{One, ◌⋅◌, Made, ◌∣◌}
 use Rattle.hw_text.specs.Reading.{first, Anything, Reached, Stuck, Leaves}
 use Rattle.hw_text.proofs.Reading.{refined, unmade}
@@ -26,7 +26,7 @@ use Rattle.c_parse.proofs.Pieces.{whole}
 use Rattle.c_parse.proofs.TwoParts as two
 use Rattle.c_parse.proofs.SmallTexts.{operand-text}
 use Rattle.c_parse.proofs.BaseTexts.{free}
-use Rattle.c_parse.proofs.FormTokens.{literal-begins, truth-begins, name-begins, unary-begins, sign-begins, behind-form, first-form, apart}
+use Rattle.c_parse.proofs.FormTokens.{literal-begins, truth-begins, name-begins, unary-begins, sign-begins, behind-form, first-form}
 
 abbrev pub unary_at : (Place × UnaryOperator) × Expression → Expression
 unary_at p = Unary p.0.0 p.0.1 p.0.0 p.1

@@ -1,11 +1,10 @@
 -- Parameters, by the tokens that stand ahead.
-use Rattle.std.proofs.Common.{◌≡◌, refl, ap, Bool, true, false, List, ◌∷◌, [], ◌++◌, inl, inr}
-use Rattle.std.specs.Prelude.{⊤, not, ◌&&◌}
-use Rattle.hw_text.specs.declared.place.Place.{Place}
+use Rattle.std.proofs.Common.{◌≡◌, refl, ap, Bool, true, false, [], inl, inr}
+use Rattle.std.specs.Prelude.{◌&&◌}
 use Rattle.hw_text.specs.declared.placed.Placed.{Placed}
-use Rattle.hw_text.specs.Language.{◌⋅◌, ◌∣◌, Made, One, Each}
+use Rattle.hw_text.specs.Language.{◌⋅◌, ◌∣◌, Made, Each}
 use Rattle.hw_text.specs.Reading.{begins, Begins, BeginsWithout, Anything, Reached, Leaves}
-use Rattle.hw_text.proofs.Reading.{begun, made-begins, then-begins, either-begins}
+use Rattle.hw_text.proofs.Reading.{begun, made-begins, then-begins}
 use Rattle.c_tree.specs.declared.type_name.TypeName.{TypeName}
 use Rattle.c_tree.specs.declared.named.Named.{Named}
 use Rattle.c_tree.specs.declared.item.Parameter.{Parameter}
@@ -15,9 +14,9 @@ use Rattle.c_parse.specs.declared.mark.Mark.TheVariants as mark
 use Rattle.c_parse.specs.Values.{Tokens, is_mark, is_word}
 use Rattle.c_parse.specs.ExpressionGrammar.{Sign, Name, InFull}
 use Rattle.c_parse.specs.CallGrammar.{Word, SpellsType, BehindComma}
-use Rattle.c_parse.specs.UnitGrammar.{SpellsParameter, SpellsParameters, parameter_of, pointer_parameter_of, parameters_of}
-use Rattle.c_parse.proofs.Steps.{Sample, both, sample_of, all_left, at_first, at_second, in_full, unmake, by_test, by_full, and_left, and_right, passed}
-use Rattle.c_parse.proofs.Leaves.{the_name, sign_begins, word_begins, name_begins, integer_begins, this_sign, this_word}
+use Rattle.c_parse.specs.UnitGrammar.{SpellsParameter, SpellsParameters, parameter_of, parameters_of}
+use Rattle.c_parse.proofs.Steps.{Sample, both, all_left, at_first, at_second, in_full, unmake, by_test, by_full, and_left, and_right, passed}
+use Rattle.c_parse.proofs.Leaves.{the_name, word_begins, name_begins, integer_begins, this_sign, this_word}
 use Rattle.c_parse.proofs.Lists.{Listed}
 use Rattle.c_parse.proofs.TypedefTexts.{a_type, type_begins, separated}
 

@@ -5,10 +5,8 @@ use Rattle.std.proofs.lemmas.Bool.{false≢true}
 use Rattle.hw_text.specs.Language.{Nothing, ◌⋅◌}
 use Rattle.hw_text.specs.Reading.{first, begins, Anything, BeginsWithout, Reached, Stuck, Leaves}
 use Rattle.hw_text.proofs.Reading.{refined, rebuilt, ended, step, stuck, first-begins}
-use Rattle.hw_text.specs.declared.placed.Placed.{Placed}
 use Rattle.c_tree.specs.declared.expression.Selector.{Selector}
 use Rattle.c_tree.specs.declared.expression.Selector.TheVariants as selector
-use Rattle.c_parse.specs.declared.token.Token.{Token}
 use Rattle.c_parse.specs.declared.mark.Mark.TheVariants as mark
 use Rattle.c_parse.specs.Values.{Tokens, is_mark}
 use Rattle.c_parse.specs.Operators.{is_part, is_selector, at_least, operator_in, Ends}

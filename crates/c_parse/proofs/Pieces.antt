@@ -1,7 +1,6 @@
 -- How what was read of a piece of a language tells what was read of the whole.
 use Rattle.std.proofs.Common.{◌≡◌, ◌∙◌, refl, sym, subst, length, ◌<◌, arith, List, [], ◌∷◌, ◌++◌, Bool, true, false, Option, Result, Ok, Err}
 use Rattle.std.proofs.lemmas.Bool.{false≢true}
-use Rattle.std.specs.Prelude.{⊤}
 use Rattle.hw_text.specs.declared.read_fault.ReadFault.{ReadFault}
 use Rattle.hw_text.specs.declared.read_fault.ReadFault.TheVariants.{Syntax, NoMemory}
 use Rattle.hw_text.specs.Language.{One, Made}

@@ -3,10 +3,9 @@ use Rattle.std.proofs.Common.{◌≡◌, ◌∙◌, refl, sym, ap, Bool, true, f
 use Rattle.std.specs.Prelude.{not}
 use Rattle.std.proofs.lemmas.Bool.{false≢true}
 use Rattle.hw_text.specs.declared.placed.Placed.{Placed}
-use Rattle.hw_text.specs.Language.{◌⋅◌, ◌∣◌, Made}
-use Rattle.hw_text.specs.Reading.{first, begins, Begins, Anything, Leaves}
+use Rattle.hw_text.specs.Language.{◌⋅◌}
+use Rattle.hw_text.specs.Reading.{first, begins, Anything, Leaves}
 use Rattle.hw_text.proofs.Reading.{then-begins, first-begins}
-use Rattle.c_tree.specs.declared.expression.Base.TheVariants as base
 use Rattle.c_tree.specs.declared.expression.Selector.{Selector}
 use Rattle.c_tree.specs.declared.expression.Lvalue.{Lvalue}
 use Rattle.c_tree.specs.declared.named.Named.{Named}
@@ -16,9 +15,9 @@ use Rattle.c_parse.specs.declared.token.Token.{Token}
 use Rattle.c_parse.specs.declared.keyword.Keyword.TheVariants as keyword
 use Rattle.c_parse.specs.declared.mark.Mark.TheVariants as mark
 use Rattle.c_parse.specs.Values.{Tokens, is_mark, is_word, is_name, is_plain_type, name_token}
-use Rattle.c_parse.specs.ExpressionGrammar.{Sign, Name, SpellsBase, SpellsLvalue, lvalue, SpellsParts, no_part, a_member, an_index}
-use Rattle.c_parse.specs.CallGrammar.{SpellsType, SpellsRightSide, SpellsCall, call_of}
-use Rattle.c_parse.specs.PlainGrammar.{local_of, assign_of, SpellsLocal, SpellsAssignment, SpellsCallAlone, SpellsBreak, SpellsPlain}
+use Rattle.c_parse.specs.ExpressionGrammar.{Sign, Name, SpellsLvalue, lvalue, SpellsParts, no_part, a_member, an_index}
+use Rattle.c_parse.specs.CallGrammar.{SpellsRightSide, SpellsCall, call_of}
+use Rattle.c_parse.specs.PlainGrammar.{local_of, SpellsLocal, SpellsAssignment, SpellsCallAlone, SpellsBreak, SpellsPlain}
 use Rattle.c_parse.proofs.TypedefTexts.{type_begins}
 use Rattle.c_parse.proofs.LocalTexts.{a_local_value}
 use Rattle.c_parse.proofs.RightTexts.{a_right, no_arguments, name_lvalue}

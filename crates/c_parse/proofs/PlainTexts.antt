@@ -1,18 +1,15 @@
 -- Statements without blocks, by the tokens that stand ahead.
-use Rattle.std.proofs.Common.{◌≡◌, ◌∙◌, refl, sym, ap, subst, Bool, true, false, ◌||◌, ◌&&◌, List, [], ◌∷◌, ◌++◌, drop, append_assoc, Some, None, inl, inr}
-use Rattle.std.specs.Prelude.{is_some, not}
+use Rattle.std.proofs.Common.{◌≡◌, ◌∙◌, refl, ap, Bool, true, false, [], ◌∷◌, ◌++◌, drop, append_assoc, Some, None, inl, inr}
+use Rattle.std.specs.Prelude.{is_some}
 use Rattle.std.proofs.lemmas.Bool.{false≢true}
 use Rattle.std.proofs.lemmas.Option.{same_Some}
 use Rattle.c_parse.proofs.TokenKinds.{none-some}
 use Rattle.hw_text.specs.declared.place.Place.{Place}
 use Rattle.hw_text.specs.declared.placed.Placed.{Placed}
-use Rattle.hw_text.specs.Language.{◌⋅◌, ◌∣◌, Made, One}
-use Rattle.hw_text.specs.Reading.{first, begins, Begins, Anything, BeginsWithout, Reached, Stuck, Leaves}
-use Rattle.hw_text.proofs.Reading.{made-begins, then-begins, first-begins, one-reached}
+use Rattle.hw_text.specs.Language.{◌⋅◌}
+use Rattle.hw_text.specs.Reading.{begins, Begins, Anything, BeginsWithout, Reached, Stuck}
+use Rattle.hw_text.proofs.Reading.{made-begins, then-begins, one-reached}
 use Rattle.c_tree.specs.declared.expression.RightSide.{RightSide}
-use Rattle.c_tree.specs.declared.expression.Base.TheVariants as base
-use Rattle.c_tree.specs.declared.expression.Selector.{Selector}
-use Rattle.c_tree.specs.declared.expression.Lvalue.{Lvalue}
 use Rattle.c_tree.specs.declared.named.Named.{Named}
 use Rattle.c_tree.specs.declared.statement.Statement.{Statement}
 use Rattle.c_tree.specs.declared.type_name.TypeName.{TypeName}
@@ -21,18 +18,14 @@ use Rattle.c_parse.specs.declared.token.Token.{Token}
 use Rattle.c_parse.specs.declared.token.Token.TheVariants as token
 use Rattle.c_parse.specs.declared.keyword.Keyword.TheVariants as keyword
 use Rattle.c_parse.specs.declared.mark.Mark.TheVariants as mark
-use Rattle.c_parse.specs.Values.{Tokens, is_mark, is_word, is_name, is_plain_type, name_of, name_token}
+use Rattle.c_parse.specs.Values.{Tokens, is_name, name_of, name_token}
 use Rattle.c_parse.specs.Operators.{is_selector}
-use Rattle.c_parse.specs.ExpressionGrammar.{Sign, Name, InFull, SpellsLvalue, lvalue, SpellsParts, no_part, a_member, an_index}
+use Rattle.c_parse.specs.ExpressionGrammar.{Sign, Name, InFull, SpellsLvalue}
 use Rattle.c_parse.specs.CallGrammar.{Word, SpellsType, SpellsRightSide, SpellsCall, Separated, SpellsArgument}
-use Rattle.c_parse.specs.PlainGrammar.{SpellsLocal, SpellsLocalValue, SpellsAssignment, SpellsCallAlone, SpellsBreak, SpellsPlain}
+use Rattle.c_parse.specs.PlainGrammar.{SpellsLocal, SpellsLocalValue, SpellsAssignment, SpellsCallAlone, SpellsBreak}
 use Rattle.c_parse.proofs.TypeTexts.{defined-read}
-use Rattle.c_parse.proofs.TypedefTexts.{type_begins}
-use Rattle.c_parse.proofs.LocalTexts.{a_local_value}
-use Rattle.c_parse.proofs.RightTexts.{a_right, no_arguments, name_lvalue, lvalue_begins}
-use Rattle.c_parse.proofs.Steps.{both, all_left, at_first, at_second, in_full, by_test, by_full, either_way, and_left, and_right}
-use Rattle.c_parse.proofs.Leaves.{put, the_sign, the_name, sign_begins, word_begins, name_begins, integer_begins, this_word}
-use Rattle.c_parse.proofs.TwoAhead.{TwoAhead}
+use Rattle.c_parse.proofs.RightTexts.{lvalue_begins}
+use Rattle.c_parse.proofs.Leaves.{put, sign_begins}
 
 pub lvalue-assign : {full : Bool} (y : Place × (RightSide × Place)) (w m : Tokens) → (Sign mark.Assign ⋅ SpellsRightSide full ⋅ Sign mark.Semicolon) y w → Anything m → BeginsWithout is_selector (w ++ m)
 lvalue-assign {full = full} y w m text follows = then-begins is_selector false (Sign mark.Assign) (SpellsRightSide full ⋅ Sign mark.Semicolon) (sign_begins is_selector false mark.Assign (λ p. refl)) y w m text

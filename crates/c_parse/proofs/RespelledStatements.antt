@@ -106,8 +106,11 @@ module _ (full : Bool) where
 
   choice-read : (first : Branch) (others : List Branch) (o : Otherwise) → (BranchRead full) first → OfEach (BranchRead full) others → (OtherwiseRead full) o → (StatementRead full) (roll-Statement (opened.If first others o))
   choice-read first others o a b c = (statement-read full) (opened.If first others o) (λ allowed.
-      let both = allows-both full (is_user_branch first) (list_all (λ v. v) (map is_user_branch others) && is_user_otherwise o) allowed in
-      let rest = allows-both full (list_all (λ v. v) (map is_user_branch others)) (is_user_otherwise o) both.1 in
+      let few : Bool = nat_le (length (map is_user_branch others)) 64 in
+      let both = allows-both full (is_user_branch first) (list_all (λ v. v) (map is_user_branch others) && (is_user_otherwise o && few)) allowed in
+      let rest = allows-both full (list_all (λ v. v) (map is_user_branch others)) (is_user_otherwise o && few) both.1 in
+      let last = allows-both full (is_user_otherwise o) few rest.1 in
+      let fits = subst (LinksFit full) (length-map others is_user_branch) (links-fit full (length (map is_user_branch others)) last.1) in
       let each = allows-each full is_user_branch others (subst (λ (v : Bool). Allows full v) (all-map is_user_branch others) rest.0) in
       respelled-as (sym (append_assoc (branch_tokens first) (flat_map else_tokens (map branch_tokens others)) (otherwise_tokens o))) refl
       (turned (λ (k : ChoiceParts). statement.If k.0 k.1.0 k.1.1)

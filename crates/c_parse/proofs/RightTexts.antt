@@ -1,28 +1,23 @@
 -- What stands on the right, and calls and lvalues: texts of them, and with which tokens they begin.
-use Rattle.std.proofs.Common.{◌≡◌, ◌∙◌, refl, sym, ap, Bool, true, false, ℕ, List, [], ◌∷◌, ◌++◌, append_assoc, append-nil, Some, ◌+◌, inl, inr}
-use Rattle.std.specs.Prelude.{codes}
+use Rattle.std.proofs.Common.{◌≡◌, ◌∙◌, refl, sym, ap, Bool, ℕ, List, [], ◌++◌, append_assoc, append-nil, Some, ◌+◌, inl, inr}
 use Rattle.hw_text.specs.declared.placed.Placed.{Placed}
 use Rattle.hw_text.specs.declared.place.Place.{Place}
-use Rattle.hw_text.specs.Language.{◌⋅◌, ◌∣◌, Made, One}
+use Rattle.hw_text.specs.Language.{◌⋅◌, One}
 use Rattle.hw_text.specs.Reading.{begins, Begins}
-use Rattle.hw_text.proofs.Reading.{one-begins, made-begins, then-begins, either-begins}
-use Rattle.c_tree.specs.declared.expression.Base.{Base}
+use Rattle.hw_text.proofs.Reading.{one-begins, made-begins, then-begins}
 use Rattle.c_tree.specs.declared.expression.Base.TheVariants as base
-use Rattle.c_tree.specs.declared.expression.Lvalue.{Lvalue}
 use Rattle.c_tree.specs.declared.expression.Expression.{Expression}
-use Rattle.c_tree.specs.declared.expression.RightSide.{RightSide}
 use Rattle.c_tree.specs.declared.expression.RightSide.TheVariants as right
-use Rattle.c_tree.specs.declared.expression.Argument.{Argument}
 use Rattle.c_tree.specs.declared.named.Named.{Named}
 use Rattle.c_tree.specs.declared.operator.UnaryOperator.{UnaryOperator}
 use Rattle.c_parse.specs.declared.token.Token.{Token}
 use Rattle.c_parse.specs.declared.token.Token.TheVariants as token
 use Rattle.c_parse.specs.declared.mark.Mark.TheVariants as mark
 use Rattle.c_parse.specs.declared.keyword.Keyword.TheVariants as keyword
-use Rattle.c_parse.specs.Values.{Tokens, literal_of, truth_of}
+use Rattle.c_parse.specs.Values.{Tokens}
 use Rattle.c_parse.specs.Operators.{unary_of}
 use Rattle.c_parse.specs.Levels.{loosest_level}
-use Rattle.c_parse.specs.ExpressionGrammar.{Sign, Name, InFull, SpellsBase, pointed, member, SpellsExpression, chain, prefix, SpellsPrefix, number, truth, value, parenthesised, unary, cast, SpellsLvalue, lvalue, SpellsParts, no_part, SpellsWhole}
+use Rattle.c_parse.specs.ExpressionGrammar.{Sign, Name, SpellsBase, SpellsExpression, chain, prefix, SpellsPrefix, number, truth, value, parenthesised, unary, cast, SpellsLvalue, lvalue, no_part}
 use Rattle.c_parse.specs.CallGrammar.{Separated, SpellsArgument, SpellsCall, call_of, SpellsRightSide}
 use Rattle.c_parse.proofs.TokenKinds.{none-some}
 use Rattle.c_parse.proofs.Steps.{Sample, both, sample_of}

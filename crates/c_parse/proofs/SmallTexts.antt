@@ -1,17 +1,13 @@
 -- A small text of each kind.
-use Rattle.std.proofs.Common.{◌≡◌, refl, [], ◌∷◌, Bool}
+use Rattle.std.proofs.Common.{refl, [], ◌∷◌, Bool}
 use Rattle.hw_text.specs.declared.place.Place.{Place}
-use Rattle.hw_text.specs.declared.placed.Placed.{Placed}
 use Rattle.c_tree.specs.declared.named.Named.{Named}
-use Rattle.c_tree.specs.declared.named.Literal.{Literal}
 use Rattle.c_tree.specs.declared.expression.Expression.{Expression}
 use Rattle.c_tree.specs.declared.expression.Expression.TheVariants.{Number}
-use Rattle.c_parse.specs.declared.token.Token.{Token}
 use Rattle.c_parse.specs.declared.token.Token.TheVariants as token
 use Rattle.c_parse.specs.declared.mark.Mark.{Mark}
 use Rattle.c_parse.specs.Tokens.{start}
-use Rattle.c_parse.specs.Values.{Tokens, literal_of}
-use Rattle.c_parse.specs.Levels.{prefix_level}
+use Rattle.c_parse.specs.Values.{Tokens}
 use Rattle.c_parse.specs.ExpressionGrammar.{Sign, Name, SpellsExpression, SpellsPrefix, number}
 use Rattle.c_parse.proofs.Tokens.{a_sign}
 use Rattle.c_parse.proofs.TypeTexts.{a_literal}

@@ -1,11 +1,11 @@
 -- Steps through productions: what is known of a whole text when parts of it have been read.
-use Rattle.std.proofs.Common.{◌≡◌, ◌∙◌, refl, sym, ap, subst, List, [], ◌∷◌, ◌++◌, Bool, true, false, Some, None, inl, inr}
+use Rattle.std.proofs.Common.{◌≡◌, ◌∙◌, refl, sym, subst, [], ◌++◌, Bool, true, false, Some, None, inl, inr}
 use Rattle.std.specs.Prelude.{⊤, IsTrue, not, ◌&&◌, Result, Ok, Err, IsErrAnd}
 use Rattle.std.proofs.lemmas.Bool.{false≢true}
 use Rattle.hw_text.specs.declared.read_fault.ReadFault.{ReadFault}
 use Rattle.hw_text.specs.declared.read_fault.ReadFault.TheVariants.{Syntax, NoMemory}
 use Rattle.hw_text.specs.declared.placed.Placed.{Placed}
-use Rattle.hw_text.specs.Language.{Nothing, ◌⋅◌, Maybe, Each, Made, ◌∣◌}
+use Rattle.hw_text.specs.Language.{◌⋅◌, Maybe, Each, Made, ◌∣◌}
 use Rattle.hw_text.specs.Reading.{first, begins, Begins, Anything, Reached, Stuck, Reads, Leaves}
 use Rattle.hw_text.proofs.Reading.{begun, step, stuck, last, last-stuck, left, right, refined, unmade, some, none, ended, failed, first-begins, never-begins, never-follows}
 use Rattle.c_parse.specs.declared.token.Token.{Token}

@@ -1,7 +1,7 @@
 -- Typedefs: texts of their parts, and what stands behind which.
-use Rattle.std.proofs.Common.{◌≡◌, refl, ◌++◌, Bool, true, false, [], ◌∷◌, inl, inr}
+use Rattle.std.proofs.Common.{◌≡◌, refl, ◌++◌, Bool, true, false, inl, inr}
 use Rattle.hw_text.specs.declared.placed.Placed.{Placed}
-use Rattle.hw_text.specs.Language.{◌⋅◌, ◌∣◌, Made, One, Each}
+use Rattle.hw_text.specs.Language.{◌⋅◌, ◌∣◌, Made, One}
 use Rattle.hw_text.specs.Reading.{begins, Begins, BeginsWith, BeginsWithout, Anything, Leaves}
 use Rattle.hw_text.proofs.Reading.{made-begins, then-begins, either-begins}
 use Rattle.c_parse.specs.declared.token.Token.{Token}
@@ -16,7 +16,7 @@ use Rattle.c_tree.specs.declared.item.Item.TheVariants as item
 use Rattle.c_tree.specs.declared.type_name.TypeName.TheVariants as class
 use Rattle.c_parse.specs.TypedefGrammar.{Opening, Closing, SpellsMember, SpellsLength, member_of, SpellsEnumeration, SpellsStructure, SpellsTypedef, enumeration_of, structure_of}
 use Rattle.c_parse.proofs.Steps.{Sample, both, sample_of, nothing_there, no_member, at_first, at_second, unmake, by_test}
-use Rattle.c_parse.proofs.Leaves.{put, this_word, the_sign, the_word, the_name, sign_begins, word_begins, name_begins, integer_begins}
+use Rattle.c_parse.proofs.Leaves.{this_word, the_sign, the_word, the_name, sign_begins, word_begins, name_begins, integer_begins}
 use Rattle.c_parse.proofs.Lists.{Listed, any_token}
 
 pub an_opening : (w : Keyword) → Sample (Opening w)

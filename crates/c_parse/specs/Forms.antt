@@ -1,5 +1,5 @@
 -- With what an operand of an expression begins.
-use Rattle.std.specs.Prelude.{List, [], ◌∷◌}
+use Rattle.std.specs.Prelude.{[], ◌∷◌}
 use Rattle.c_parse.specs.declared.keyword.Keyword.{Keyword}
 use Rattle.c_parse.specs.declared.keyword.Keyword.TheVariants as keyword
 use Rattle.c_parse.specs.declared.mark.Mark.{Mark}

@@ -25,18 +25,6 @@ pub fn expression(
     expression_levels::of_level(alloc, tokens, full, LOOSEST_LEVEL, None)
 }
 
-/// Reads an expression that begins with a name that was passed.
-pub fn expression_behind(
-    alloc: Global,
-    tokens: &mut Cursor<'_, Placed<Token>>,
-    full: bool,
-    name: Named,
-) -> Result<Expression, ReadFault>
-    ensures { Reads (SpellsWhole full) (Ends loosest_level) (name_token name ∷ tokens.old) tokens.new result }
-{
-    expression_levels::of_level(alloc, tokens, full, LOOSEST_LEVEL, Some(name))
-}
-
 /// Reads an lvalue.
 pub fn lvalue(
     alloc: Global,

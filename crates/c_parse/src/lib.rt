@@ -43,7 +43,7 @@ mod words;
 pub use blocks::{block, statement, statements};
 pub use calls::{argument, call, call_behind, right_side};
 pub use counting::{CountEnd, CountStart, count, forever_head};
-pub use expressions::{expression, expression_behind, lvalue, lvalue_behind};
+pub use expressions::{expression, lvalue, lvalue_behind};
 pub use externals::{external, pointer};
 pub use flaw_laws::{empty_ranges, long_expressions};
 pub use headings::Heading;

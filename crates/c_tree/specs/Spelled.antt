@@ -1,5 +1,5 @@
 -- Expressions and statements of which each name and each literal is spelled as one (docs/formats/c.md).
-use Rattle.std.specs.Prelude.{Bool, true, ◌&&◌, List, Option, Some, None}
+use Rattle.std.specs.Prelude.{Bool, true, ◌&&◌}
 use Rattle.std.specs.List.{list_all}
 use Rattle.c_tree.specs.Numerals.{is_numeral}
 use Rattle.c_tree.specs.Words.{is_identifier}

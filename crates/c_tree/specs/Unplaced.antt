@@ -1,6 +1,5 @@
 -- Expressions and statements without their places: each place is put at the start (this project's own; docs/formats/c.md).
-use Rattle.std.specs.Prelude.{List, map, Option}
-use Rattle.std.specs.Option.{option_map}
+use Rattle.std.specs.Prelude.{map}
 use Rattle.hw_text.specs.declared.place.Place.{Place}
 use Rattle.c_tree.specs.declared.named.Named.{Named}
 use Rattle.c_tree.specs.declared.named.Literal.{Literal}

@@ -1,5 +1,5 @@
 -- Units without their places (this project's own; docs/formats/c.md).
-use Rattle.std.specs.Prelude.{◌≡◌, List, map, Option}
+use Rattle.std.specs.Prelude.{◌≡◌, map}
 use Rattle.std.specs.Option.{option_map}
 use Rattle.c_tree.specs.declared.item.Enumeration.{Enumeration}
 use Rattle.c_tree.specs.declared.item.Member.{Member}

@@ -1,6 +1,6 @@
 use Rattle.std.proofs.Common.{sym, ◌∙◌}
 use Rattle.hw_text.proofs.Reading.{failed}
-use Rattle.c_parse.proofs.BaseTexts.{name-stuck, alone-for-users, alone-read, arrow-stuck, member-stuck, member-read}
+use Rattle.c_parse.proofs.BaseTexts.{name-stuck, arrow-stuck, member-stuck, member-read}
 use Rattle.c_parse.proofs.bases.named_base.Goals as goal
 
 pub returns-in_err-first : goal.returns-in_err-first

@@ -1,4 +1,4 @@
-use Rattle.std.proofs.Common.{◌∙◌, sym, ap, subst, refl, arith, ℕ, ◌+◌, Bool, true, false, inl, inr}
+use Rattle.std.proofs.Common.{◌∙◌, sym, ap, subst, refl, arith, ℕ, ◌+◌, inl, inr}
 use Rattle.hw_text.specs.Reading.{Anything, Reads}
 use Rattle.hw_text.proofs.Reading.{failed, last, last-stuck}
 use Rattle.c_parse.specs.declared.form.Form.TheVariants as form
@@ -11,7 +11,7 @@ use Rattle.c_parse.specs.PartGrammar.{value_of, SpellsNumber, SpellsTruth}
 use Rattle.c_parse.proofs.Pieces.{handed-on, read-as}
 use Rattle.c_parse.proofs.FormTokens.{unpassed}
 use Rattle.c_parse.proofs.OpenedTexts.{opening-stuck, target-stuck, cast-stuck, cast-read, pointed-stuck, selectors-stuck, pointed-read, inner-stuck, close-stuck as shut-stuck, enclosed-read}
-use Rattle.c_parse.proofs.PartTexts.{NoSelector, ends-selector, parts-begun, parts-read, part-stuck, part-more, part-shorter}
+use Rattle.c_parse.proofs.PartTexts.{NoSelector, ends-selector, parts-read, part-stuck, part-more, part-shorter}
 use Rattle.c_parse.proofs.LvalueTexts.{base-stuck, parts-stuck, lvalue-read, dot-stuck, member-stuck, member-read, open-stuck, index-stuck, close-stuck, index-read}
 use Rattle.c_parse.proofs.Chains.{first-stuck, first-read}
 use Rattle.c_parse.proofs.LevelTexts.{tightest, passed-shorter, right-operand-stuck, operation-read, operation-shorter, level-read}

@@ -1,6 +1,5 @@
 use Rattle.c_parse.proofs.Steps.{fails}
 use Rattle.c_parse.proofs.Lists.{none_read, list_read, member_stuck, member_read, member_shorter}
-use Rattle.std.proofs.Common.{sym, ◌∙◌}
 use Rattle.c_parse.proofs.ItemChoices.{items_listed, some_left, none_left}
 use Rattle.c_parse.proofs.items.items.Goals as goal
 

@@ -1,4 +1,4 @@
-use Rattle.std.proofs.Common.{◌≡◌, refl, sym, subst, [], ◌∷◌, Option, Some}
+use Rattle.std.proofs.Common.{refl, sym, subst, ◌∷◌, Option}
 use Rattle.hw_text.specs.Reading.{Anything, Reached}
 use Rattle.hw_text.proofs.Reading.{one-reached}
 use Rattle.c_tree.specs.declared.named.Named.{Named}
