@@ -1,18 +1,16 @@
 //! The readers of statements and of their blocks.
 
-ghost use Rattle.std.specs.Prelude.{◌≡◌, ◌&&◌, ◌||◌, nat_lt};
+ghost use Rattle.std.specs.Prelude.{◌≡◌};
 ghost use Rattle.hw_text.specs.Reading.{Reads, Anything, BeginsWith, begins};
-ghost use Rattle.c_parse.specs.declared.keyword.Keyword.TheVariants as keyword;
-ghost use Rattle.c_parse.specs.Values.{is_word};
 ghost use Rattle.c_parse.specs.StatementGrammar.{SpellsStatement, SpellsStatements, SpellsBlock, SpellsBranch, SpellsElse, SpellsChoice, SpellsFor, NoElse, ends_body};
 
 use crate::counting::{count, forever_head};
 use crate::keyword::Keyword;
 use crate::leaf::{sign, stands_in_full};
+use crate::links::goes_on;
 use crate::local_values::condition;
 use crate::mark::Mark;
 use crate::plain::plain;
-use crate::refusals::LINKS;
 use crate::token::Token;
 use crate::words::{stands_word, word};
 use c_tree::{Branch, Otherwise, Statement};
@@ -120,13 +118,6 @@ fn choice(
         others,
         otherwise,
     })
-}
-
-/// Whether a chain of so many `else if`s goes on with an `if`, which is ahead.
-fn goes_on(tokens: &Cursor<'_, Placed<Token>>, full: bool, links: usize) -> bool
-    ensures { result ≡ (begins (is_word keyword.If) tokens.now && (full || nat_lt links 64)) }
-{
-    stands_word(tokens, Keyword::If) && (full || links < LINKS)
 }
 
 /// Reads each `else if`, and the last `else`.

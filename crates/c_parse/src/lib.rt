@@ -21,6 +21,7 @@ mod items;
 mod keyword;
 mod leaf;
 mod lexer;
+mod links;
 mod local_values;
 mod mark;
 mod names;

@@ -4,6 +4,7 @@ ghost use Rattle.std.specs.Prelude.{◌≡◌, [], slice_get, Some, None, IfOk, 
 ghost use Rattle.c_parse.specs.Refusals.{told, limit, too_long, syntax, unexpected, stopped, unexpected_there, token_before, link_of, unexpected_at};
 
 use crate::keyword::Keyword;
+use crate::links::LINKS;
 use crate::token::Token;
 use crate::words::keyword_of;
 use hw_text::{Code, Lexed, NoMemory, Place, Placed, Refusal, TextBuf};
@@ -11,9 +12,6 @@ use std::alloc::Global;
 
 /// How many bytes a text of users may have.
 pub const LARGEST: usize = 1_048_576;
-
-/// How many `else if`s a chain of users may have.
-pub const LINKS: usize = 64;
 
 /// A text of more bytes than a user's may have.
 pub fn too_long(alloc: Global, bytes: usize) -> Result<Refusal, NoMemory>

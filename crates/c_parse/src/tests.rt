@@ -1,3 +1,4 @@
+mod chains;
 mod flaws;
 mod generated;
 mod groups;
@@ -6,6 +7,7 @@ mod lines;
 mod literals;
 mod right_sides;
 mod units;
+mod users;
 mod whole_texts;
 mod words;
 

@@ -1,13 +1,13 @@
-//! The limits of texts of users, of which generated texts have none.
+//! The limits of texts of users.
 
-use super::lines::{full_line, repeated, user_line};
+use super::lines::{repeated, user_line};
 use hw_text::NoMemory;
 use std::alloc::Global;
 use std::test::Fail;
 
 /// A text before copies of a piece, the piece, how many, the text behind them, and what is told of
 /// it as a text of users.
-type Row = (
+pub type Row = (
     &'static [u8],
     &'static [u8],
     usize,
@@ -61,52 +61,6 @@ const NESTING: [Row; 6] = [
     ),
 ];
 
-/// The `else if`s of a chain.
-const LINKS: [Row; 6] = [
-    (
-        b"void f(void) { if (a) { } ",
-        b"else if (a) { } ",
-        64,
-        b"}",
-        b"",
-    ),
-    (
-        b"void f(void) { if (a) { } ",
-        b"else if (a) { } ",
-        64,
-        b"else { } }",
-        b"",
-    ),
-    (
-        b"void f(void) { if (a) { } ",
-        b"else if (a) { } ",
-        65,
-        b"}",
-        b"refused u 1:1051 Limit nesting 65 64\n",
-    ),
-    (
-        b"void f(void) { if (a) { } ",
-        b"else if (a) { } ",
-        64,
-        b"else 5",
-        b"refused u 1:1056 Syntax\n",
-    ),
-    (
-        b"void f(void) { if (a) { } ",
-        b"else if (a) { } ",
-        64,
-        b"else { if (a) { } else if (a) { } } }",
-        b"",
-    ),
-    (
-        b"void f(void) { if (a) { } ",
-        b"else if (a) { } ",
-        60,
-        b"if (a) { } else if (a) { } else if (a) { } else if (a) { } else if (a) { } else if (a) { } }",
-        b"",
-    ),
-];
-
 /// The tokens of an expression.
 const TOKENS: [Row; 4] = [
     (b"void f(void) { a = -b", b" + b", 249, b"; }", b""),
@@ -154,7 +108,7 @@ const BYTES: [Row; 4] = [
 ];
 
 /// Whether each text of users is told as the row says.
-fn are_told(alloc: Global, rows: &[Row]) -> Result<bool, NoMemory> {
+pub fn are_told(alloc: Global, rows: &[Row]) -> Result<bool, NoMemory> {
     for (before, piece, count, behind, line) in rows {
         let text = repeated(alloc, before, piece, *count, behind)?;
         if user_line(alloc, text.rows())?.rows() != *line {
@@ -171,12 +125,6 @@ fn brackets_are_at_most_64_deep(rt: HostRuntime) -> Result<(), Fail> {
 }
 
 #[test]
-fn chains_have_at_most_64_links(rt: HostRuntime) -> Result<(), Fail> {
-    assert!(rt; are_told(rt.alloc(), &LINKS)?);
-    Ok(())
-}
-
-#[test]
 fn expressions_have_at_most_500_tokens(rt: HostRuntime) -> Result<(), Fail> {
     assert!(rt; are_told(rt.alloc(), &TOKENS)?);
     Ok(())
@@ -185,33 +133,5 @@ fn expressions_have_at_most_500_tokens(rt: HostRuntime) -> Result<(), Fail> {
 #[test]
 fn texts_have_at_most_1_048_576_bytes(rt: HostRuntime) -> Result<(), Fail> {
     assert!(rt; are_told(rt.alloc(), &BYTES)?);
-    Ok(())
-}
-
-#[test]
-fn generated_texts_have_no_limits(rt: HostRuntime) -> Result<(), Fail> {
-    let rows: [Row; 4] = [
-        (
-            b"void f(void) { a = -",
-            b"(-",
-            100,
-            b"b",
-            b"refused u 1:222 Syntax\n",
-        ),
-        (
-            b"void f(void) { if (a) { } ",
-            b"else if (a) { } ",
-            65,
-            b"}",
-            b"",
-        ),
-        (b"void f(void) { a = b", b" + b", 250, b"; }", b""),
-        (b"", b" ", 1_048_577, b"", b""),
-    ];
-    for (before, piece, count, behind, line) in &rows {
-        let text = repeated(rt.alloc(), before, piece, *count, behind)?;
-        let told = full_line(rt.alloc(), text.rows())?;
-        assert_eq!(rt; told.rows(), *line);
-    }
     Ok(())
 }

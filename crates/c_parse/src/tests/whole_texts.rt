@@ -1,4 +1,4 @@
-//! Whole texts: which are units in both grammars or in the full one alone, and why others are refused.
+//! Whole texts: which are units, and why others are refused.
 
 use super::generated::{GLUE, QUEUES, RANGES};
 use super::lines::{full_line, user_line};
@@ -93,42 +93,6 @@ fn includes_and_comments_may_stand_anywhere(rt: HostRuntime) -> Result<(), Fail>
         assert_eq!(rt; told.rows(), b"".as_slice());
         let told = user_line(rt.alloc(), text)?;
         assert_eq!(rt; told.rows(), b"".as_slice());
-    }
-    Ok(())
-}
-
-/// Texts of the full grammar, and why they are none of that of users.
-const GENERATED_ALONE: [(&[u8], &[u8]); 12] = [
-    (
-        b"typedef enum { a } b;",
-        b"refused u 1:1 NotInSubset typedef\n",
-    ),
-    (
-        b"typedef struct { bool a; } b;",
-        b"refused u 1:1 NotInSubset typedef\n",
-    ),
-    (b"extern bool a;", b"refused u 1:1 NotInSubset extern\n"),
-    (b"volatile a *b;", b"refused u 1:1 NotInSubset volatile\n"),
-    (b"void f(void);", b"refused u 1:13 Syntax\n"),
-    (b"static a f(bool b);", b"refused u 1:19 Syntax\n"),
-    (b"void f(a *b) { }", b"refused u 1:10 Syntax\n"),
-    (b"void f(void) { a = p->f; }", b"refused u 1:21 Syntax\n"),
-    (b"void f(void) { p->f = a; }", b"refused u 1:17 Syntax\n"),
-    (b"void f(void) { (*p) = a; }", b"refused u 1:16 Syntax\n"),
-    (b"void f(void) { for (;;) { } }", b"refused u 1:21 Syntax\n"),
-    (
-        b"void f(void) { break; }",
-        b"refused u 1:16 NotInSubset break\n",
-    ),
-];
-
-#[test]
-fn users_have_fewer_forms(rt: HostRuntime) -> Result<(), Fail> {
-    for (text, line) in GENERATED_ALONE {
-        let told = full_line(rt.alloc(), text)?;
-        assert_eq!(rt; told.rows(), b"".as_slice());
-        let told = user_line(rt.alloc(), text)?;
-        assert_eq!(rt; told.rows(), line);
     }
     Ok(())
 }
