@@ -1,8 +1,7 @@
 -- What is wrong with a token with which the grammar goes on: it is a bracket inside too many others, an expression goes on with it that has
 -- too many tokens, or a range ends with it that is empty (docs/formats/c.md).
-use Rattle.std.specs.Prelude.{ℕ, ◌+◌, ◌-◌, pos, nat_le, nat_lt, Bool, false, not, ◌&&◌, if◌then◌else◌, List, [], ◌∷◌, codes, take, drop, slice_get, unwrap_or, Option, Some, None, is_some}
+use Rattle.std.specs.Prelude.{ℕ, ◌+◌, ◌-◌, nat_le, nat_lt, Bool, false, not, ◌&&◌, if◌then◌else◌, [], ◌∷◌, codes, take, drop, slice_get, unwrap_or, Option, Some, None, is_some}
 use Rattle.std.specs.Option.{option_map_or}
-use Rattle.hw_text.specs.declared.code.Code.TheVariants as code
 use Rattle.hw_text.specs.declared.place.Place.{Place}
 use Rattle.hw_text.specs.declared.refusal.Refusal.{Refusal}
 use Rattle.hw_text.specs.Reading.{begins}
@@ -11,6 +10,7 @@ use Rattle.c_parse.specs.declared.flaw.Flaw.TheVariants.{TooDeep, TooLong, Empty
 use Rattle.c_parse.specs.declared.mark.Mark.TheVariants as mark
 use Rattle.c_parse.specs.Nesting.{opens, leads, open_behind, expression_length}
 use Rattle.c_parse.specs.RangeEnds.{empty_range_at}
+use Rattle.c_parse.specs.Refusals.{limit, syntax}
 use Rattle.c_parse.specs.Values.{Tokens, is_name, is_mark}
 
 -- a bracket inside 64 others
@@ -41,14 +41,6 @@ flaw_at full ts i =
     else if is_some (empty_range_at ts i) then Some EmptyRange
     else None
 
--- a refusal of this code, at this place, of a word and two numbers
-abbrev pub told_limit : List ℕ → Place → ℕ → ℕ → Refusal
-told_limit kind at counted allowed =
-    record { code = code.UserLimit; place = at; word = kind; low = pos counted; high = pos allowed; length = pos 0 }
-
-abbrev pub told_syntax : Place → Refusal
-told_syntax at = record { code = code.UserSyntax; place = at; word = []; low = pos 0; high = pos 0; length = pos 0 }
-
 abbrev pub nowhere : Place
 nowhere = record { line = 0; column = 0 }
 
@@ -59,6 +51,6 @@ place_at ts i = option_map_or (λ t. t.place) (slice_get ts i) nowhere
 -- What is told of the token at the index for its flaw: of a bracket where it stands, of an expression where its first token stands, with
 -- the number of its tokens, and of a range where its second literal begins.
 abbrev pub flawed : Tokens → ℕ → Flaw → Refusal
-flawed ts i TooDeep = told_limit (codes "nesting") (place_at ts i) 65 64
-flawed ts i TooLong = told_limit (codes "tokens") (place_at ts (i - 500)) (expression_length (drop (i - 500) ts)) 500
-flawed ts i EmptyRange = told_syntax (unwrap_or (empty_range_at ts i) nowhere)
+flawed ts i TooDeep = limit (codes "nesting") (place_at ts i) 65 64
+flawed ts i TooLong = limit (codes "tokens") (place_at ts (i - 500)) (expression_length (drop (i - 500) ts)) 500
+flawed ts i EmptyRange = syntax (unwrap_or (empty_range_at ts i) nowhere)

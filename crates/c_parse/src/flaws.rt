@@ -2,7 +2,7 @@
 
 ghost use Rattle.std.specs.Prelude.{◌≡◌, ◌<◌, ℕ, take, drop, length, Some, None, MatchOption, IfOk};
 ghost use Rattle.c_parse.specs.Nesting.{open_behind, expression_length};
-ghost use Rattle.c_parse.specs.Flaws.{is_too_deep, begins_call, leads_too_far, is_too_long, flaw_at, told_limit, told_syntax, place_at, flawed};
+ghost use Rattle.c_parse.specs.Flaws.{is_too_deep, begins_call, leads_too_far, is_too_long, flaw_at, place_at, flawed};
 
 use crate::flaw::{DEEPEST, Flaw, Flawed, LONGEST};
 use crate::leaf::stands;
@@ -10,8 +10,9 @@ use crate::mark::Mark;
 use crate::names::stands_name;
 use crate::nesting::{Brackets, expression_length, leads, opens};
 use crate::ranges::empty_range_at;
+use crate::refusals::{limit, syntax};
 use crate::token::Token;
-use hw_text::{Code, Cursor, NoMemory, Place, Placed, Refusal, TextBuf};
+use hw_text::{Cursor, NoMemory, Place, Placed, Refusal};
 use std::alloc::Global;
 
 /// The first token with which something is wrong, in the full grammar or in that of users.
@@ -122,38 +123,4 @@ fn length_from(tokens: &[Placed<Token>], index: usize) -> usize
 {
     let (_, rest) = tokens.split_at(index.min(tokens.len()));
     expression_length(rest)
-}
-
-fn syntax(alloc: Global, place: Place) -> Refusal
-    ensures { result ≡ told_syntax place }
-{
-    Refusal {
-        code: Code::UserSyntax,
-        place,
-        word: TextBuf::new(alloc),
-        low: 0,
-        high: 0,
-        length: 0,
-    }
-}
-
-fn limit(
-    alloc: Global,
-    kind: &str,
-    place: Place,
-    counted: usize,
-    allowed: usize,
-) -> Result<Refusal, NoMemory>
-    ensures { IfOk result (λ r. r ≡ told_limit kind.now place counted allowed) }
-{
-    let mut word = TextBuf::new(alloc);
-    word.word(kind.as_bytes())?;
-    Ok(Refusal {
-        code: Code::UserLimit,
-        place,
-        word,
-        low: counted as i128,
-        high: allowed as i128,
-        length: 0,
-    })
 }

@@ -134,7 +134,8 @@ fn told(code: Code, place: Place, word: TextBuf) -> Refusal
     }
 }
 
-fn limit(
+/// What there is more of than is allowed, how much, and how much is allowed.
+pub fn limit(
     alloc: Global,
     kind: &str,
     place: Place,
