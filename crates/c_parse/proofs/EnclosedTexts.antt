@@ -20,7 +20,7 @@ use Rattle.c_parse.proofs.Enclosed.{inside, inside-append, Closed, closed-append
 use Rattle.c_parse.proofs.MarkTokens.{mark-token}
 
 -- a bracket that opens, and the one that closes it
-record ArePair (m n : Mark) : Type 0 where
+pub record ArePair (m n : Mark) : Type 0 where
   opened : opens (token.Mark m) ≡ true
   no_close : closes (token.Mark m) ≡ false
   no_end : ends (token.Mark m) ≡ false
@@ -30,6 +30,9 @@ record ArePair (m n : Mark) : Type 0 where
 
 parentheses : ArePair mark.OpenParenthesis mark.CloseParenthesis
 parentheses = record { opened = refl; no_close = refl; no_end = refl; no_open = refl; closed = refl; end = refl }
+
+pub braces : ArePair mark.OpenBrace mark.CloseBrace
+braces = record { opened = refl; no_close = refl; no_end = refl; no_open = refl; closed = refl; end = refl }
 
 square : ArePair mark.OpenBracket mark.CloseBracket
 square = record { opened = refl; no_close = refl; no_end = refl; no_open = refl; closed = refl; end = refl }
@@ -41,7 +44,7 @@ closing t m n at d pair is =
     ap (λ (c : Bool). step (suc d) false c (ends (token.Mark n))) pair.closed ∙ ap (step (suc d) false true) pair.end ∙
     ap {B = Option ℕ} (λ (b : Bool). cond b None (Some ((suc d + 0) - 1))) (eqb-suc-zero d) ∙ ap Some (omega arith)
 
-bracketed : (m n : Mark) → ArePair m n → (p q : Place) (ps ws qs : Tokens) → Sign m p ps → Closed ws → Sign n q qs → Closed (ps ++ (ws ++ qs))
+pub bracketed : (m n : Mark) → ArePair m n → (p q : Place) (ps ws qs : Tokens) → Sign m p ps → Closed ws → Sign n q qs → Closed (ps ++ (ws ++ qs))
 bracketed m n pair p q ps ws qs opening inner ending d =
     let rest = ws ++ qs in
     let is = mark-token m opening.0 p opening.2 in

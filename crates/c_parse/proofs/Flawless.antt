@@ -2,7 +2,7 @@
 use Rattle.std.proofs.Common.{◌≡◌, sym, ◌<◌, ◌≤◌, ℕ, ◌+◌, ◌-◌, Bool, true, false, [], ◌∷◌, length, take, drop, Option, Some, None, refl, ap, ◌∙◌, inl, inr, arith, length-take, length-drop}
 use Rattle.std.specs.Prelude.{not, ◌&&◌, if◌then◌else◌, nat_le, is_some, reverse, slice_get}
 use Rattle.std.specs.Option.{option_map_or}
-use Rattle.std.proofs.lemmas.Bool.{le-ltb, cases_lt}
+use Rattle.std.proofs.lemmas.Bool.{false≢true, le-ltb, cases_lt}
 use Rattle.std.proofs.lemmas.Option.{slice_get_past}
 use Rattle.hw_text.specs.declared.place.Place.{Place}
 use Rattle.hw_text.specs.declared.placed.Placed.{Placed}
@@ -68,6 +68,22 @@ empty-chosen false false false at none = none-some EmptyRange (sym none)
 pub flaw-of-long : (ts : Tokens) (i : ℕ) → is_too_long ts i ≡ true → flaw_at false ts i ≡ None → ⊥
 unfolding chosen
 flaw-of-long ts i long none = long-chosen (is_too_deep ts i) (empty_range_at ts i) (sym (ap (λ (b : Bool). chosen false (is_too_deep ts i) b (empty_range_at ts i)) long) ∙ none)
+
+abbrev is_long : Option Flaw → Bool
+is_long (Some TooLong) = true
+is_long _ = false
+
+only-long : (deep long : Bool) (o : Option Place) → chosen false deep long o ≡ Some TooLong → long ≡ true
+unfolding chosen
+only-long true long o is = absurd (false≢true (ap is_long is))
+only-long false true o is = refl
+only-long false false (Some at) is = absurd (false≢true (ap is_long is))
+only-long false false None is = absurd (false≢true (ap is_long is))
+
+-- what is told as too long is told by its window
+pub flaw-too-long : (ts : Tokens) (i : ℕ) → flaw_at false ts i ≡ Some TooLong → is_too_long ts i ≡ true
+unfolding chosen
+flaw-too-long ts i is = only-long (is_too_deep ts i) (is_too_long ts i) (empty_range_at ts i) is
 
 -- and with the token that ends an empty range
 pub flaw-of-empty : (full : Bool) (ts : Tokens) (i : ℕ) (at : Place) → empty_range_at ts i ≡ Some at → flaw_at full ts i ≡ None → ⊥

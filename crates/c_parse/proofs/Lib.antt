@@ -13,6 +13,16 @@ pub mod Chains
 pub mod CountTexts
 pub mod Enclosed
 pub mod EnclosedTexts
+pub mod Endings
+pub mod Explained
+pub mod ExplainedAssignments
+pub mod ExplainedCalls
+pub mod ExplainedCounts
+pub mod ExplainedLocals
+pub mod ExplainedPlains
+pub mod ExplainedStatements
+pub mod ExplainedUnits
+pub mod ExplainedVariables
 pub mod ExpressionInduction
 pub mod FlawPlaces
 pub mod Flawless
@@ -21,6 +31,7 @@ pub mod HeadingTexts
 pub mod InitialTexts
 pub mod ItemChoices
 pub mod ItemTexts
+pub mod LeafTokens
 pub mod Leaves
 pub mod Lengths
 pub mod LevelTexts
@@ -36,6 +47,10 @@ pub mod MarkTokens
 pub mod OneReading
 pub mod OpenedTexts
 pub mod OperandTexts
+pub mod OutermostBegun
+pub mod OutermostFailures
+pub mod OutermostLong
+pub mod OutermostTold
 pub mod ParameterTexts
 pub mod PartTexts
 pub mod Pieces
@@ -79,6 +94,8 @@ pub mod UnitTexts
 pub mod UnplacedForms
 pub mod UnplacedStatements
 pub mod WholeUnits
+pub mod Windows
+pub mod Within
 pub mod WordFronts
 pub mod Written
 pub mod WrittenCalls

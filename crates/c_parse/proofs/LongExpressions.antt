@@ -23,13 +23,13 @@ use Rattle.c_parse.proofs.EnclosedTexts.{expression-closed}
 use Rattle.c_parse.proofs.Prefixes.{left, left-all}
 use Rattle.c_parse.proofs.TokenKinds.{none-some}
 
-abbrev opened : Tokens → ℕ
+abbrev pub opened : Tokens → ℕ
 opened ts = count_by (λ t. opens t.token) ts
 
-abbrev shut : Tokens → ℕ
+abbrev pub shut : Tokens → ℕ
 shut ts = count_by (λ t. closes t.token) ts
 
-one-more : (p : Placed Token → Bool) (us : Tokens) (t : Placed Token) → count_by p (us ++ t ∷ []) ≡ count_by p us + cond (p t) 1 0
+pub one-more : (p : Placed Token → Bool) (us : Tokens) (t : Placed Token) → count_by p (us ++ t ∷ []) ≡ count_by p us + cond (p t) 1 0
 one-more p us t = sum_by-append (λ x. cond (p x) 1 0) us (t ∷ []) ∙ ap {B = ℕ} (λ (n : ℕ). count_by p us + n) (omega arith)
 
 -- what closes a bracket ends an expression outside brackets
@@ -40,7 +40,7 @@ closes-ends (token.Mark mark.CloseBrace) is = refl
 closes-ends _ is = absurd (false≢true is)
 
 -- where no expression ends, no more brackets close than are open
-closing-level : (t : Token) (d : ℕ) → (ends t && (d == 0)) ≡ false → cond (closes t) 1 0 ≤ d
+pub closing-level : (t : Token) (d : ℕ) → (ends t && (d == 0)) ≡ false → cond (closes t) 1 0 ≤ d
 closing-level t (suc d) so = by (closes t)
   where
     by : (c : Bool) → cond c 1 0 ≤ suc d

@@ -27,9 +27,9 @@ abbrev pub leads_too_far : Tokens → Bool
 leads_too_far [] = false
 leads_too_far (t ∷ ts) = leads t.token && (not (begins_call ts) && nat_lt 500 (expression_length ts))
 
--- Of the 502 tokens up to there, an expression begins behind the first, and the others are its own. It is an outermost one: in the grammar
--- of users no expression holds a call, or a comma outside brackets, and a bracket within an expression begins another one later, so that
--- the outermost one has its 501st token first.
+-- Of the 502 tokens up to there, an expression begins behind the first, and the others are its own. Where nothing is wrong before, it is an
+-- outermost one of a text that goes on with the token: in the grammar of users no expression holds a call, and a bracket within an expression
+-- begins another one later, so that the outermost one has its 501st token first (`outermost_expressions`).
 abbrev pub is_too_long : Tokens → ℕ → Bool
 is_too_long ts i = leads_too_far (drop (i - 501) (take (i + 1) ts))
 

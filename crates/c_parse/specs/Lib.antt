@@ -10,6 +10,7 @@ pub mod Lexed
 pub mod Marks
 pub mod Nesting
 pub mod Operators
+pub mod Outermost
 pub mod PartGrammar
 pub mod PlainGrammar
 pub mod Printed
@@ -19,6 +20,7 @@ pub mod PrintedUnits
 pub mod RangeEnds
 pub mod Ranges
 pub mod Refusals
+pub mod Standing
 pub mod StatementGrammar
 pub mod Tokens
 pub mod TypedefGrammar

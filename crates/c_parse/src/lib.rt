@@ -46,7 +46,7 @@ pub use calls::{argument, call, call_behind, right_side};
 pub use counting::{CountEnd, CountStart, count, forever_head};
 pub use expressions::{expression, lvalue, lvalue_behind};
 pub use externals::{external, pointer};
-pub use flaw_laws::{empty_ranges, long_expressions};
+pub use flaw_laws::{empty_ranges, long_expressions, outermost_expressions};
 pub use headings::Heading;
 pub use initials::{initial_value, zeros};
 pub use items::items as unit_items;
