@@ -1,9 +1,11 @@
 //! From the text of C to its trees.
 #![tactic(auto)]
 
+mod assignments;
 mod bases;
 mod blank;
 mod blocks;
+mod body_ends;
 mod bounds;
 mod calls;
 mod counting;
@@ -15,6 +17,7 @@ mod flaw;
 mod flaw_laws;
 mod flaws;
 mod form;
+mod functions;
 mod headings;
 mod initials;
 mod items;
@@ -23,6 +26,7 @@ mod leaf;
 mod lexer;
 mod links;
 mod local_values;
+mod locals;
 mod mark;
 mod names;
 mod nesting;
@@ -38,6 +42,7 @@ mod token;
 mod trees;
 mod typedefs;
 mod types;
+mod variables;
 mod whole;
 mod words;
 
