@@ -78,6 +78,10 @@ pub mod TypedefTexts
 pub mod UnitTexts
 pub mod UnplacedForms
 pub mod UnplacedStatements
+pub mod UserCalls
+pub mod UserExpressions
+pub mod UserItems
+pub mod UserStatements
 pub mod WholeUnits
 pub mod WordFronts
 pub mod Written

@@ -42,6 +42,7 @@ mod token;
 mod trees;
 mod typedefs;
 mod types;
+mod user_units;
 mod variables;
 mod whole;
 mod words;
@@ -69,6 +70,7 @@ pub use terminals::{IntegerAt, LiteralAt, NameAt, TruthAt, UnaryAt, ZeroAt};
 pub use token::Token;
 pub use typedefs::typedef;
 pub use types::{length, signed_literal, stands_integer, type_name};
+pub use user_units::user_texts_are_of_user_units;
 pub use words::{stands_word, word};
 
 #[cfg(test)]
