@@ -93,6 +93,10 @@ pub mod TypedefTexts
 pub mod UnitTexts
 pub mod UnplacedForms
 pub mod UnplacedStatements
+pub mod UserCalls
+pub mod UserExpressions
+pub mod UserItems
+pub mod UserStatements
 pub mod WholeUnits
 pub mod Windows
 pub mod Within

@@ -1,9 +1,9 @@
 //! The readers of statements and of their blocks.
 
-ghost use Rattle.std.specs.Prelude.{◌≡◌};
-ghost use Rattle.hw_text.specs.Reading.{Reads, Anything, BeginsWith, begins};
+ghost use Rattle.hw_text.specs.Reading.{Reads, Anything, BeginsWith};
 ghost use Rattle.c_parse.specs.StatementGrammar.{SpellsStatement, SpellsStatements, SpellsBlock, SpellsBranch, SpellsElse, SpellsChoice, SpellsFor, NoElse, ends_body};
 
+use crate::body_ends::stands_end;
 use crate::counting::{count, forever_head};
 use crate::keyword::Keyword;
 use crate::leaf::{sign, stands_in_full};
@@ -16,26 +16,6 @@ use crate::words::{stands_word, word};
 use c_tree::{Branch, Otherwise, Statement};
 use hw_text::{Cursor, Placed, ReadFault, Rows};
 use std::alloc::Global;
-
-/// Whether the token stands behind the statements of a block.
-fn ends_body(token: &Placed<Token>) -> bool
-    ensures { result ≡ ends_body token.now }
-{
-    matches!(
-        &token.token,
-        Token::Mark(Mark::CloseBrace) | Token::Keyword(Keyword::Return)
-    )
-}
-
-/// Whether the end of statements is ahead.
-fn stands_end(tokens: &Cursor<'_, Placed<Token>>) -> bool
-    ensures { result ≡ begins ends_body tokens.now }
-{
-    match tokens.peek() {
-        Some(token) => ends_body(token),
-        None => false,
-    }
-}
 
 /// Reads a statement.
 #[cycle(statements)]

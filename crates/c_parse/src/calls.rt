@@ -88,17 +88,6 @@ fn call_from(
     Ok(Call { name, arguments })
 }
 
-/// Reads a call.
-pub fn call(
-    alloc: Global,
-    tokens: &mut Cursor<'_, Placed<Token>>,
-    full: bool,
-) -> Result<Call, ReadFault>
-    ensures { Reads (SpellsCall full) Anything tokens.old tokens.new result }
-{
-    call_from(alloc, tokens, full, None)
-}
-
 /// Reads a call whose name was passed.
 pub fn call_behind(
     alloc: Global,

@@ -1,9 +1,11 @@
 //! From the text of C to its trees.
 #![tactic(auto)]
 
+mod assignments;
 mod bases;
 mod blank;
 mod blocks;
+mod body_ends;
 mod bounds;
 mod calls;
 mod counting;
@@ -15,6 +17,7 @@ mod flaw;
 mod flaw_laws;
 mod flaws;
 mod form;
+mod functions;
 mod headings;
 mod initials;
 mod items;
@@ -23,6 +26,7 @@ mod leaf;
 mod lexer;
 mod links;
 mod local_values;
+mod locals;
 mod mark;
 mod names;
 mod nesting;
@@ -38,11 +42,13 @@ mod token;
 mod trees;
 mod typedefs;
 mod types;
+mod user_units;
+mod variables;
 mod whole;
 mod words;
 
 pub use blocks::{block, statement, statements};
-pub use calls::{argument, call, call_behind, right_side};
+pub use calls::{argument, call_behind, right_side};
 pub use counting::{CountEnd, CountStart, count, forever_head};
 pub use expressions::{expression, lvalue, lvalue_behind};
 pub use externals::{external, pointer};
@@ -64,6 +70,7 @@ pub use terminals::{IntegerAt, LiteralAt, NameAt, TruthAt, UnaryAt, ZeroAt};
 pub use token::Token;
 pub use typedefs::typedef;
 pub use types::{length, signed_literal, stands_integer, type_name};
+pub use user_units::user_texts_are_of_user_units;
 pub use words::{stands_word, word};
 
 #[cfg(test)]

@@ -1,10 +1,12 @@
 mod chains;
+mod empty_ranges;
 mod flaws;
 mod generated;
 mod groups;
 mod limits;
 mod lines;
 mod literals;
+mod printed_right_sides;
 mod right_sides;
 mod units;
 mod users;

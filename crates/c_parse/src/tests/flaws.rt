@@ -1,13 +1,14 @@
-//! Brackets too deep, expressions too long and empty ranges, and what is told of them.
+//! Brackets too deep and expressions too long, and what is told of them.
 
+use super::lines::repeated;
 use crate::flaws::{first_flawed, flawed};
-use crate::*;
+use crate::read_tokens;
 use hw_text::TextBuf;
 use std::alloc::Global;
 use std::test::Fail;
 
 /// What is told of the first token with which something is wrong; nothing where there is none.
-fn told(alloc: Global, text: &[u8], full: bool) -> Result<TextBuf, Fail> {
+pub fn told(alloc: Global, text: &[u8], full: bool) -> Result<TextBuf, Fail> {
     let read = read_tokens(alloc, text)?;
     match first_flawed(read.tokens.rows(), full) {
         Some(found) => {
@@ -16,22 +17,6 @@ fn told(alloc: Global, text: &[u8], full: bool) -> Result<TextBuf, Fail> {
         }
         None => Ok(TextBuf::new(alloc)),
     }
-}
-
-fn repeated(
-    alloc: Global,
-    before: &[u8],
-    piece: &[u8],
-    times: usize,
-    after: &[u8],
-) -> Result<TextBuf, Fail> {
-    let mut text = TextBuf::new(alloc);
-    text.word(before)?;
-    for _ in 0..times {
-        text.word(piece)?;
-    }
-    text.word(after)?;
-    Ok(text)
 }
 
 /// Whether this is told of a text of users, in whose middle a piece stands so many times.
@@ -130,63 +115,6 @@ fn calls_are_no_expressions(rt: HostRuntime) -> Result<(), Fail> {
     assert!(rt; tells(rt.alloc(), (b"x = f(", b"a, ", 300, b"a);"), b"")?);
     assert!(rt; tells(rt.alloc(), (b"if (f(", b"a, ", 300, b"a)) {"), b"")?);
     assert!(rt; tells(rt.alloc(), (b"return f(", b"a, ", 300, b"a);"), b"")?);
-    Ok(())
-}
-
-/// Whether this is told of the head of a loop, in both grammars.
-fn tells_range(alloc: Global, head: &[u8], expected: &[u8]) -> Result<bool, Fail> {
-    let users = told(alloc, head, false)?;
-    let full = told(alloc, head, true)?;
-    Ok(users.rows() == expected && full.rows() == expected)
-}
-
-#[test]
-fn second_literals_are_above_the_first(rt: HostRuntime) -> Result<(), Fail> {
-    let rows: [&[u8]; 10] = [
-        b"for (int32_t i = 0; i < 1",
-        b"for (int32_t i = -1; i < 0",
-        b"for (int32_t i = -2; i < -1",
-        b"for (int32_t i = 0; i < -1u",
-        b"for (int32_t i = -1; i < -1u",
-        b"for (int64_t i = -9223372036854775807l; i < 0xF",
-        b"for (uint64_t i = 18446744073709551614u; i < -1ul",
-        b"for (uint32_t i = 0; i < -0x80000000",
-        b"for (int32_t i = 5l; i < 0x6UL",
-        b"(int32_t i = 1; i < 0",
-    ];
-    for head in rows {
-        assert!(rt; tells_range(rt.alloc(), head, b"")?);
-    }
-    Ok(())
-}
-
-#[test]
-fn empty_ranges_are_told_at_their_second_literal(rt: HostRuntime) -> Result<(), Fail> {
-    let rows: [(&[u8], &[u8]); 8] = [
-        (b"for (int32_t i = 1; i < 1", b"refused u.c 1:25 Syntax\n"),
-        (
-            b"for (int32_t i = 2; i < 1; i++",
-            b"refused u.c 1:25 Syntax\n",
-        ),
-        (b"for (int32_t i = 0; i < -1", b"refused u.c 1:25 Syntax\n"),
-        (
-            b"for (int32_t i = -1; i < - 1",
-            b"refused u.c 1:26 Syntax\n",
-        ),
-        (
-            b"for (uint8_t i = 0x10; i < 16",
-            b"refused u.c 1:28 Syntax\n",
-        ),
-        (b"for (int32_t i = -1u; i < 0", b"refused u.c 1:27 Syntax\n"),
-        (b"for (int32_t i = 0; i < -0u", b"refused u.c 1:25 Syntax\n"),
-        (
-            b"for (int64_t i = 2147483648; i < -0x80000000",
-            b"refused u.c 1:34 Syntax\n",
-        ),
-    ];
-    for (head, expected) in rows {
-        assert!(rt; tells_range(rt.alloc(), head, expected)?);
-    }
     Ok(())
 }
 

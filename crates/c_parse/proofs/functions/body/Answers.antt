@@ -5,7 +5,7 @@ use Rattle.c_parse.proofs.ItemTexts.{body_stuck, no_return_left, return_left, ri
 use Rattle.std.proofs.Common.{ap}
 use Rattle.std.specs.Prelude.{is_some}
 use Rattle.c_parse.proofs.RightTexts.{a_right}
-use Rattle.c_parse.proofs.items.body.Goals as goal
+use Rattle.c_parse.proofs.functions.body.Goals as goal
 
 pub returns-in_err-all : goal.returns-in_err-all
 returns-in_err-all c = fails _ _ c.from_residual.ensures.1 c.in_err-all.ensures (body_stuck _ _ _)

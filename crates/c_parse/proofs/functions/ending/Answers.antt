@@ -1,7 +1,7 @@
 use Rattle.c_parse.proofs.Steps.{fails, passed, stuck_in, stuck_last, done}
 use Rattle.std.proofs.Common.{sym, ◌∙◌}
 use Rattle.c_parse.proofs.ItemTexts.{prototype_there, body_there, a_body}
-use Rattle.c_parse.proofs.items.ending.Goals as goal
+use Rattle.c_parse.proofs.functions.ending.Goals as goal
 
 pub returns-in_err-sign : goal.returns-in_err-sign
 returns-in_err-sign c = fails _ _ c.from_residual.ensures.1 c.in_err-sign.ensures (stuck_last (prototype_there _ _ _ (sym c.stands_in_full.ensures ∙ c.if-stands_in_full.true)))

@@ -2,7 +2,7 @@ use Rattle.c_parse.proofs.Steps.{fails, made, passed, passed_by, stuck_in, stuck
 use Rattle.c_parse.proofs.Leaves.{the_sign}
 use Rattle.c_parse.specs.declared.mark.Mark.TheVariants as mark
 use Rattle.c_parse.proofs.LocalTexts.{right-semicolon, a_local_value}
-use Rattle.c_parse.proofs.plain.local_behind.Goals as goal
+use Rattle.c_parse.proofs.locals.local_behind.Goals as goal
 
 pub returns-in_err-name : goal.returns-in_err-name
 returns-in_err-name c = fails _ _ c.from_residual.ensures.1 c.in_err-name.ensures (stuck_in (made _ _ _ _) (both ((a_local_value _)) (the_sign mark.Semicolon)))

@@ -1,7 +1,7 @@
 use Rattle.c_parse.proofs.Steps.{fails, passed, stuck_in, stuck_last, done}
 use Rattle.std.proofs.Common.{sym, ◌∙◌}
 use Rattle.c_parse.proofs.ItemTexts.{not_given, given_there, an_initial}
-use Rattle.c_parse.proofs.items.given_value.Goals as goal
+use Rattle.c_parse.proofs.variables.given_value.Goals as goal
 
 pub returns-then-not-stands : goal.returns-then-not-stands
 returns-then-not-stands c = not_given _ (sym c.stands.ensures ∙ c.if-not-stands.true)

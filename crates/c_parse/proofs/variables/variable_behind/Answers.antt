@@ -2,7 +2,7 @@ use Rattle.c_parse.proofs.Steps.{fails, made, passed_by, stuck_by, stuck_last, d
 use Rattle.c_parse.proofs.Leaves.{the_sign}
 use Rattle.c_parse.specs.declared.mark.Mark.TheVariants as mark
 use Rattle.c_parse.proofs.ItemTexts.{length_follow, given_follow}
-use Rattle.c_parse.proofs.items.variable_behind.Goals as goal
+use Rattle.c_parse.proofs.variables.variable_behind.Goals as goal
 
 pub returns-in_err-length : goal.returns-in_err-length
 returns-in_err-length c = fails _ _ c.from_residual.ensures.1 c.in_err-length.ensures (stuck_by (made _ _ _ _) length_follow (both (nothing_there _) (the_sign mark.Semicolon)))

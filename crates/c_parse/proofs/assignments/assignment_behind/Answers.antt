@@ -4,7 +4,7 @@ use Rattle.c_parse.specs.declared.mark.Mark.TheVariants as mark
 use Rattle.c_parse.proofs.RightTexts.{a_right}
 use Rattle.c_parse.proofs.Steps.{remake, handed}
 use Rattle.c_parse.proofs.PlainTexts.{lvalue-assign}
-use Rattle.c_parse.proofs.plain.assignment_behind.Goals as goal
+use Rattle.c_parse.proofs.assignments.assignment_behind.Goals as goal
 
 pub returns-in_err-target : goal.returns-in_err-target
 returns-in_err-target c = fails _ _ c.from_residual.ensures.1 c.in_err-target.ensures (stuck_by (made _ _ _ _) lvalue-assign (both (the_sign mark.Assign) (both (a_right _) (the_sign mark.Semicolon))))

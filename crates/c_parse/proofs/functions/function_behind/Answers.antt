@@ -3,7 +3,7 @@ use Rattle.c_parse.proofs.Leaves.{the_sign}
 use Rattle.c_parse.specs.declared.mark.Mark.TheVariants as mark
 use Rattle.c_parse.proofs.ItemTexts.{parameters_follow, some_parameters, an_ending}
 use Rattle.c_parse.proofs.Steps.{as_value}
-use Rattle.c_parse.proofs.items.function_behind.Goals as goal
+use Rattle.c_parse.proofs.functions.function_behind.Goals as goal
 
 pub returns-in_err-sign : goal.returns-in_err-sign
 returns-in_err-sign c = fails _ _ c.from_residual.ensures.1 c.in_err-sign.ensures (stuck_in (made _ _ _ _) (both (some_parameters _) (both (the_sign mark.CloseParenthesis) (an_ending _ _))))

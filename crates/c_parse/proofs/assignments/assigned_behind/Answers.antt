@@ -3,7 +3,7 @@ use Rattle.c_parse.proofs.Leaves.{the_sign}
 use Rattle.c_parse.specs.declared.mark.Mark.TheVariants as mark
 use Rattle.c_parse.proofs.LocalTexts.{right-semicolon}
 use Rattle.c_parse.proofs.RightTexts.{a_right}
-use Rattle.c_parse.proofs.plain.assigned_behind.Goals as goal
+use Rattle.c_parse.proofs.assignments.assigned_behind.Goals as goal
 
 pub returns-in_err-sign : goal.returns-in_err-sign
 returns-in_err-sign c = fails _ _ c.from_residual.ensures.1 c.in_err-sign.ensures (stuck_in (made _ _ _ _) (both ((a_right _)) (the_sign mark.Semicolon)))
