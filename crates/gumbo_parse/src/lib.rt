@@ -28,6 +28,7 @@ mod parse;
 mod ports;
 mod print;
 mod print_class;
+mod print_compound;
 mod print_pieces;
 mod printed;
 mod quantification;
