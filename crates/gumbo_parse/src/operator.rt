@@ -1,9 +1,7 @@
 //! The operators of expressions, and how tightly they bind.
 
 ghost use Rattle.std.specs.Prelude.{◌≡◌, ◌≤◌};
-ghost use Rattle.gumbo_parse.specs.Operators.{unary_level, binary_level, left_level, right_level, binary_text, quantifier_word, test_word};
-
-use crate::word::Word;
+ghost use Rattle.gumbo_parse.specs.Operators.{unary_level, binary_level, left_level, right_level};
 
 /// An operator with one operand.
 #[derive(Clone, Copy, Debug, PartialEq, Eq)]
@@ -116,51 +114,6 @@ impl BinaryOperator {
             | BinaryOperator::GreaterOrEqual => 5,
             BinaryOperator::Add | BinaryOperator::Subtract => 6,
             BinaryOperator::Multiply | BinaryOperator::Divide | BinaryOperator::Remainder => 7,
-        }
-    }
-
-    /// The word or mark that it is printed as.
-    pub fn text(self) -> &'static str
-        ensures { result.now ≡ binary_text self }
-    {
-        match self {
-            BinaryOperator::Implies => "implies",
-            BinaryOperator::Or => "or",
-            BinaryOperator::And => "and",
-            BinaryOperator::Equal => "==",
-            BinaryOperator::NotEqual => "!=",
-            BinaryOperator::Less => "<",
-            BinaryOperator::LessOrEqual => "<=",
-            BinaryOperator::Greater => ">",
-            BinaryOperator::GreaterOrEqual => ">=",
-            BinaryOperator::Add => "+",
-            BinaryOperator::Subtract => "-",
-            BinaryOperator::Multiply => "*",
-            BinaryOperator::Divide => "/",
-            BinaryOperator::Remainder => "%",
-        }
-    }
-}
-
-impl Quantifier {
-    pub fn word(self) -> Word
-        ensures { result ≡ quantifier_word self }
-    {
-        match self {
-            Quantifier::ForAll => Word::ForAll,
-            Quantifier::Exists => Word::Exists,
-        }
-    }
-}
-
-impl PortTest {
-    pub fn word(self) -> Word
-        ensures { result ≡ test_word self }
-    {
-        match self {
-            PortTest::HasEvent => Word::HasEvent,
-            PortTest::NoSend => Word::NoSend,
-            PortTest::MustSend => Word::MustSend,
         }
     }
 }
