@@ -29,6 +29,7 @@ pub enum BinaryOperator {
     Remainder,
 }
 
+/// Whether something is to hold for all numbers of a range, or for some.
 #[derive(Clone, Copy, Debug, PartialEq, Eq)]
 pub enum Quantifier {
     ForAll,
@@ -38,8 +39,11 @@ pub enum Quantifier {
 /// What is asked of a port alone.
 #[derive(Clone, Copy, Debug, PartialEq, Eq)]
 pub enum PortTest {
+    /// Whether an item has come in at the port.
     HasEvent,
+    /// Whether nothing goes out at the port.
     NoSend,
+    /// Whether something goes out at the port, whatever its value.
     MustSend,
 }
 

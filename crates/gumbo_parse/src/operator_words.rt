@@ -31,6 +31,7 @@ impl BinaryOperator {
 }
 
 impl Quantifier {
+    /// The word that it is written as.
     pub fn word(self) -> Word
         ensures { result ≡ quantifier_word self }
     {
@@ -42,6 +43,7 @@ impl Quantifier {
 }
 
 impl PortTest {
+    /// The word before the port's name in parentheses.
     pub fn word(self) -> Word
         ensures { result ≡ test_word self }
     {
