@@ -17,6 +17,7 @@ pub enum ClauseKind {
 }
 
 impl ClauseKind {
+    /// The word with which such a clause begins.
     pub fn word(self) -> Word
         ensures { result ≡ clause_word self }
     {
@@ -27,6 +28,7 @@ impl ClauseKind {
     }
 }
 
+/// A condition on the values of a thread, under a name of its own.
 #[derive(Debug, Drop)]
 pub struct Clause {
     pub kind: ClauseKind,
@@ -52,7 +54,8 @@ pub struct Compute {
     pub handlers: Rows<Handler>,
 }
 
-/// The contract of a thread, section by section; an empty section is not written.
+/// The contract of a thread, section by section. A section of no variable or clause is not written; that
+/// of the entry point is written wherever it is there, even without a clause.
 #[derive(Debug, Drop)]
 pub struct Contract {
     pub state: Rows<Variable>,

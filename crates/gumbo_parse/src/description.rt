@@ -35,6 +35,7 @@ impl Description {
         })
     }
 
+    /// The bytes between the quotes.
     pub fn rows(&self) -> &[u8]
         ensures bytes { result.now ≡ self.now }
         ensures plain { text_length self.now ≡ length self.now }

@@ -30,7 +30,8 @@ pub enum Selector {
     Index(Place, Expression),
 }
 
-/// An expression. Parentheses are no part of it: binary operators have two operands.
+/// An expression. Parentheses are no part of it: binary operators have two operands. The place of a number
+/// or a truth value is its own, and that of a unary or binary expression is its operator's.
 #[cycle(expression)]
 #[derive(Debug, Drop)]
 pub enum Expression {

@@ -42,6 +42,7 @@ impl Identifier {
         }
     }
 
+    /// The bytes of the name.
     pub fn rows(&self) -> &[u8]
         ensures bytes { result.now ≡ self.now }
         ensures identifier { is_identifier self.now ≡ true }

@@ -21,6 +21,7 @@ impl Model for Integer {
 }
 
 impl Integer {
+    /// The literal of this value.
     pub fn new(value: u128) -> Integer
         requires { value < 2 ^ 127 }
         ensures { result ≡ value }
@@ -28,6 +29,7 @@ impl Integer {
         Integer { value }
     }
 
+    /// What the literal stands for.
     pub fn value(&self) -> u128
         ensures exact { result ≡ self.now }
         ensures bound { result < 2 ^ 127 }

@@ -87,6 +87,7 @@ static MARKS: [Mark; 31] = [
 ];
 
 impl Mark {
+    /// The bytes of the mark.
     pub fn spelling(self) -> &'static str
         ensures exact { result.now ≡ mark_spelling self }
         ensures some { 0 < length result.now }

@@ -1,9 +1,7 @@
 //! The operators of expressions, and how tightly they bind.
 
 ghost use Rattle.std.specs.Prelude.{◌≡◌, ◌≤◌};
-ghost use Rattle.gumbo_parse.specs.Operators.{unary_level, binary_level, left_level, right_level, binary_text, quantifier_word, test_word};
-
-use crate::word::Word;
+ghost use Rattle.gumbo_parse.specs.Operators.{unary_level, binary_level, left_level, right_level};
 
 /// An operator with one operand.
 #[derive(Clone, Copy, Debug, PartialEq, Eq)]
@@ -31,6 +29,7 @@ pub enum BinaryOperator {
     Remainder,
 }
 
+/// Whether something is to hold for all numbers of a range, or for some.
 #[derive(Clone, Copy, Debug, PartialEq, Eq)]
 pub enum Quantifier {
     ForAll,
@@ -40,8 +39,11 @@ pub enum Quantifier {
 /// What is asked of a port alone.
 #[derive(Clone, Copy, Debug, PartialEq, Eq)]
 pub enum PortTest {
+    /// Whether an item has come in at the port.
     HasEvent,
+    /// Whether nothing goes out at the port.
     NoSend,
+    /// Whether something goes out at the port, whatever its value.
     MustSend,
 }
 
@@ -116,51 +118,6 @@ impl BinaryOperator {
             | BinaryOperator::GreaterOrEqual => 5,
             BinaryOperator::Add | BinaryOperator::Subtract => 6,
             BinaryOperator::Multiply | BinaryOperator::Divide | BinaryOperator::Remainder => 7,
-        }
-    }
-
-    /// The word or mark that it is printed as.
-    pub fn text(self) -> &'static str
-        ensures { result.now ≡ binary_text self }
-    {
-        match self {
-            BinaryOperator::Implies => "implies",
-            BinaryOperator::Or => "or",
-            BinaryOperator::And => "and",
-            BinaryOperator::Equal => "==",
-            BinaryOperator::NotEqual => "!=",
-            BinaryOperator::Less => "<",
-            BinaryOperator::LessOrEqual => "<=",
-            BinaryOperator::Greater => ">",
-            BinaryOperator::GreaterOrEqual => ">=",
-            BinaryOperator::Add => "+",
-            BinaryOperator::Subtract => "-",
-            BinaryOperator::Multiply => "*",
-            BinaryOperator::Divide => "/",
-            BinaryOperator::Remainder => "%",
-        }
-    }
-}
-
-impl Quantifier {
-    pub fn word(self) -> Word
-        ensures { result ≡ quantifier_word self }
-    {
-        match self {
-            Quantifier::ForAll => Word::ForAll,
-            Quantifier::Exists => Word::Exists,
-        }
-    }
-}
-
-impl PortTest {
-    pub fn word(self) -> Word
-        ensures { result ≡ test_word self }
-    {
-        match self {
-            PortTest::HasEvent => Word::HasEvent,
-            PortTest::NoSend => Word::NoSend,
-            PortTest::MustSend => Word::MustSend,
         }
     }
 }

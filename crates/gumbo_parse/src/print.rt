@@ -7,9 +7,10 @@ ghost use Rattle.gumbo_parse.specs.ExpressionTokens.{expression_tokens, selector
 ghost use Rattle.gumbo_parse.specs.Printing.{joined, expression_text, selector_text};
 
 use crate::expression::{Expression, Selector};
-use crate::print_pieces::{
-    close, is_minus, open, print_asked, print_infix, print_quantification, print_sign, print_truth,
+use crate::print_compound::{
+    print_before, print_must_send, print_quantified, print_unary, print_value,
 };
+use crate::print_pieces::{close, open, print_infix, print_truth};
 use hw_text::{NoMemory, TextBuf};
 
 impl Expression {
@@ -23,28 +24,14 @@ impl Expression {
         match self {
             Expression::Number(_, number) => number.print(out),
             Expression::Truth(_, truth) => print_truth(out, *truth),
-            Expression::Value(named, parts) => {
-                out.word(named.name.rows())?;
-                print_parts(parts.rows(), out)
-            }
-            Expression::Before(_, named, parts) => {
-                named.print_in_parentheses(out, b"In")?;
-                print_parts(parts.rows(), out)
-            }
+            Expression::Value(named, parts) => print_value(out, named, parts.rows()),
+            Expression::Before(_, named, parts) => print_before(out, named, parts.rows()),
             Expression::Test(_, test, named) => {
                 named.print_in_parentheses(out, test.word().spelling().as_bytes())
             }
-            Expression::MustSend(_, named, _, sent) => {
-                print_asked(out, named)?;
-                sent.get().print(out, 0, false)?;
-                out.word(b")")
-            }
+            Expression::MustSend(_, named, _, sent) => print_must_send(out, named, sent.get()),
             Expression::Unary(_, operator, operand) => {
-                let level = operator.level();
-                open(out, level < wanted)?;
-                print_sign(out, *operator, after_minus)?;
-                operand.get().print(out, level, is_minus(*operator))?;
-                close(out, level < wanted)
+                print_unary(out, *operator, operand.get(), wanted, after_minus)
             }
             Expression::Binary(_, operator, left, right) => {
                 let grouped = operator.level() < wanted;
@@ -61,11 +48,7 @@ impl Expression {
                 below,
                 body,
                 ..
-            } => {
-                print_quantification(out, *quantifier, variable, from, below)?;
-                body.get().print(out, 0, false)?;
-                out.word(b")")
-            }
+            } => print_quantified(out, *quantifier, variable, from, below, body.get()),
         }
     }
 }
@@ -90,8 +73,9 @@ impl Selector {
     }
 }
 
+/// Appends each of the fields and indexes behind a name.
 #[cycle(printer)]
-fn print_parts(parts: &[Selector], out: &mut TextBuf) -> Result<(), NoMemory>
+pub fn print_parts(parts: &[Selector], out: &mut TextBuf) -> Result<(), NoMemory>
     ensures text { OnOk result (out.new ≡ out.old ++ joined (map selector_text parts.now)) }
     ensures allowed { OnOk result (AreAllowed (flat_map (λ ts. ts) (map selector_tokens parts.now))) }
 {

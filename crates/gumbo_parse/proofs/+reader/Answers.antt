@@ -237,81 +237,81 @@ operands::read_sent-returns t c =
     final_before (then (opened_as (an_option (mark_spelling mark.Comma ∷ []) (sym c.stands_sign.ensures ∙ c.if-not-stands_sign.false) no-comma (sent_opening _))) c.in_ok-sign.ensures)
     comma-ends c.in_ok-sent.ensures
 
-pub operands::read_parenthesised-returns-in_err-sign : goal.operands::read_parenthesised-returns-in_err-sign
-operands::read_parenthesised-returns-in_err-sign t c =
+pub groups::read_parenthesised-returns-in_err-sign : goal.groups::read_parenthesised-returns-in_err-sign
+groups::read_parenthesised-returns-in_err-sign t c =
     halt _ _ _ _ (parenthesised_opening _) (both a_group (a_sign mark.CloseParenthesis)) c.from_residual.ensures.1 c.in_err-sign.ensures
 
-pub operands::read_parenthesised-returns-in_err-inner : goal.operands::read_parenthesised-returns-in_err-inner
-operands::read_parenthesised-returns-in_err-inner t c =
+pub groups::read_parenthesised-returns-in_err-inner : goal.groups::read_parenthesised-returns-in_err-inner
+groups::read_parenthesised-returns-in_err-inner t c =
     halt_before _ _ _ _ _ (then (parenthesised_opening _) c.in_ok-sign.ensures) close-ends (a_sign mark.CloseParenthesis) c.from_residual-in_err-inner.ensures.1 c.in_err-inner.ensures
 
-pub operands::read_parenthesised-returns-in_err-sign-2 : goal.operands::read_parenthesised-returns-in_err-sign-2
-operands::read_parenthesised-returns-in_err-sign-2 t c =
+pub groups::read_parenthesised-returns-in_err-sign-2 : goal.groups::read_parenthesised-returns-in_err-sign-2
+groups::read_parenthesised-returns-in_err-sign-2 t c =
     final_halt _ _ _ (next_before (then (parenthesised_opening _) c.in_ok-sign.ensures) close-ends c.in_ok-inner.ensures) c.from_residual-in_err-sign-2.ensures.1 c.in_err-sign-2.ensures
 
-pub operands::read_parenthesised-returns : goal.operands::read_parenthesised-returns
-operands::read_parenthesised-returns t c =
+pub groups::read_parenthesised-returns : goal.groups::read_parenthesised-returns
+groups::read_parenthesised-returns t c =
     final (next_before (then (parenthesised_opening _) c.in_ok-sign.ensures) close-ends c.in_ok-inner.ensures) c.in_ok-sign-2.ensures
 
-pub operands::read_group-returns-then-stands : goal.operands::read_group-returns-then-stands
-operands::read_group-returns-then-stands t c =
+pub groups::read_group-returns-then-stands : goal.groups::read_group-returns-then-stands
+groups::read_group-returns-then-stands t c =
     handed SpellsQuantified (Ends level.Implication) _ _ (quantified_there _ (sym c.stands.ensures ∙ c.if-stands.true)) (λ m ends. ends) c.read_quantified.ensures
 
-pub operands::read_group-returns : goal.operands::read_group-returns
-operands::read_group-returns t c =
+pub groups::read_group-returns : goal.groups::read_group-returns
+groups::read_group-returns t c =
     handed (Spells level.Implication) (Ends level.Implication) _ _ (whole_there _ (sym c.stands.ensures ∙ c.if-stands.false)) (λ m ends. ends) c.read_level.ensures
 
-pub operands::read_quantified-returns-in_err-heading : goal.operands::read_quantified-returns-in_err-heading
-operands::read_quantified-returns-in_err-heading t c = halt _ _ _ _ (quantified_opening _) a_started c.from_residual.ensures.1 c.in_err-heading.ensures
+pub groups::read_quantified-returns-in_err-heading : goal.groups::read_quantified-returns-in_err-heading
+groups::read_quantified-returns-in_err-heading t c = halt _ _ _ _ (quantified_opening _) a_started c.from_residual.ensures.1 c.in_err-heading.ensures
 
-pub operands::read_quantified-returns-in_err-body_place : goal.operands::read_quantified-returns-in_err-body_place
-operands::read_quantified-returns-in_err-body_place t c =
+pub groups::read_quantified-returns-in_err-body_place : goal.groups::read_quantified-returns-in_err-body_place
+groups::read_quantified-returns-in_err-body_place t c =
     final_halt_before _ _ _ _ (then (quantified_opening _) c.in_ok-heading.ensures) (λ m ends. ends) c.from_residual-in_err-body_place.ensures.1 c.in_err-body_place.ensures
 
-pub operands::read_quantified-returns : goal.operands::read_quantified-returns
-operands::read_quantified-returns t c =
+pub groups::read_quantified-returns : goal.groups::read_quantified-returns
+groups::read_quantified-returns t c =
     let so = final_before (then (quantified_opening _) c.in_ok-heading.ensures) (λ m ends. ends) c.in_ok-body_place.ensures in
     rw c.in_ok-body.ensures so
 
-pub operands::read_parts-parts-init : goal.operands::read_parts-parts-init
-operands::read_parts-parts-init t c = (parts_opening _ c.new-parts.ensures _, omega arith)
+pub selectors::read_parts-parts-init : goal.selectors::read_parts-parts-init
+selectors::read_parts-parts-init t c = (parts_opening _ c.new-parts.ensures _, omega arith)
 
-pub operands::read_parts-returns-in_err-part : goal.operands::read_parts-returns-in_err-part
-operands::read_parts-returns-in_err-part t c =
+pub selectors::read_parts-returns-in_err-part : goal.selectors::read_parts-returns-in_err-part
+selectors::read_parts-returns-in_err-part t c =
     halt _ _ _ _ (a_member part_shapes (sym c.stands_part.ensures ∙ c.parts-test.true) (λ m ends. ends) c.parts.invariant.0) no_members c.from_residual.ensures.1 c.in_err-part.ensures
 
-pub operands::read_parts-parts-preserved : goal.operands::read_parts-parts-preserved
-operands::read_parts-parts-preserved t c =
+pub selectors::read_parts-parts-preserved : goal.selectors::read_parts-parts-preserved
+selectors::read_parts-parts-preserved t c =
     let so = then (a_member part_shapes (sym c.stands_part.ensures ∙ c.parts-test.true) (λ m ends. ends) c.parts.invariant.0) c.in_ok-part.ensures in (
       rebuilt SpellsParts (Without part_shapes) _ _ _ _ (Each SpellsPart)
           (λ later. sym (append_assoc c.parts.parts (c.in_ok-part.part ∷ []) later) ∙ ap (λ (l : List Selector). l ++ later) (sym c.in_ok-push.ensures.ok)) so,
       omega (arith, c.parts.invariant.1, no-longer c.in_ok-part.ensures),
     )
 
-pub operands::read_parts-returns : goal.operands::read_parts-returns
-operands::read_parts-returns t c =
+pub selectors::read_parts-returns : goal.selectors::read_parts-returns
+selectors::read_parts-returns t c =
     rw (append-nil c.parts.parts) at (no_member part_shapes part-begins (sym c.stands_part.ensures ∙ c.parts-test.false) c.parts.invariant.0)
 
-pub operands::read_part-returns-then-stands_sign : goal.operands::read_part-returns-then-stands_sign
-operands::read_part-returns-then-stands_sign t c =
+pub selectors::read_part-returns-then-stands_sign : goal.selectors::read_part-returns-then-stands_sign
+selectors::read_part-returns-then-stands_sign t c =
     handed SpellsField Anything _ _ (field_there _ (sym c.stands_sign.ensures ∙ c.if-stands_sign.true)) (λ m ends. tt) c.read_field.ensures
 
-pub operands::read_part-returns : goal.operands::read_part-returns
-operands::read_part-returns t c =
+pub selectors::read_part-returns : goal.selectors::read_part-returns
+selectors::read_part-returns t c =
     handed SpellsIndex Anything _ _ (index_there _ (sym c.stands_sign.ensures ∙ c.if-stands_sign.false)) (λ m ends. tt) c.read_index.ensures
 
-pub operands::read_index-returns-in_err-sign : goal.operands::read_index-returns-in_err-sign
-operands::read_index-returns-in_err-sign t c =
+pub selectors::read_index-returns-in_err-sign : goal.selectors::read_index-returns-in_err-sign
+selectors::read_index-returns-in_err-sign t c =
     halt _ _ _ _ (index_opening _) (both a_started (a_sign mark.CloseBracket)) c.from_residual.ensures.1 c.in_err-sign.ensures
 
-pub operands::read_index-returns-in_err-start : goal.operands::read_index-returns-in_err-start
-operands::read_index-returns-in_err-start t c =
+pub selectors::read_index-returns-in_err-start : goal.selectors::read_index-returns-in_err-start
+selectors::read_index-returns-in_err-start t c =
     halt_before _ _ _ _ _ (then (index_opening _) c.in_ok-sign.ensures) bracket-ends (a_sign mark.CloseBracket) c.from_residual-in_err-start.ensures.1 c.in_err-start.ensures
 
-pub operands::read_index-returns-in_err-sign-2 : goal.operands::read_index-returns-in_err-sign-2
-operands::read_index-returns-in_err-sign-2 t c =
+pub selectors::read_index-returns-in_err-sign-2 : goal.selectors::read_index-returns-in_err-sign-2
+selectors::read_index-returns-in_err-sign-2 t c =
     final_halt _ _ _ (next_before (then (index_opening _) c.in_ok-sign.ensures) bracket-ends c.in_ok-start.ensures) c.from_residual-in_err-sign-2.ensures.1 c.in_err-sign-2.ensures
 
-pub operands::read_index-returns : goal.operands::read_index-returns
-operands::read_index-returns t c =
+pub selectors::read_index-returns : goal.selectors::read_index-returns
+selectors::read_index-returns t c =
     final (next_before (then (index_opening _) c.in_ok-sign.ensures) bracket-ends c.in_ok-start.ensures) c.in_ok-sign-2.ensures

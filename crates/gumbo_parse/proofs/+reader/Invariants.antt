@@ -40,23 +40,23 @@ decreases-operands::read_must_send l = 40 * length l.tokens.now + 1
 abbrev pub decreases-operands::read_sent : goal.decreases-operands::read_sent
 decreases-operands::read_sent l = 40 * length l.tokens.now + 38
 
-abbrev pub decreases-operands::read_parenthesised : goal.decreases-operands::read_parenthesised
-decreases-operands::read_parenthesised l = 40 * length l.tokens.now + 1
+abbrev pub decreases-groups::read_parenthesised : goal.decreases-groups::read_parenthesised
+decreases-groups::read_parenthesised l = 40 * length l.tokens.now + 1
 
-abbrev pub decreases-operands::read_group : goal.decreases-operands::read_group
-decreases-operands::read_group l = 40 * length l.tokens.now + 38
+abbrev pub decreases-groups::read_group : goal.decreases-groups::read_group
+decreases-groups::read_group l = 40 * length l.tokens.now + 38
 
-abbrev pub decreases-operands::read_quantified : goal.decreases-operands::read_quantified
-decreases-operands::read_quantified l = 40 * length l.tokens.now + 37
+abbrev pub decreases-groups::read_quantified : goal.decreases-groups::read_quantified
+decreases-groups::read_quantified l = 40 * length l.tokens.now + 37
 
-abbrev pub decreases-operands::read_parts : goal.decreases-operands::read_parts
-decreases-operands::read_parts l = 40 * length l.tokens.now + 30
+abbrev pub decreases-selectors::read_parts : goal.decreases-selectors::read_parts
+decreases-selectors::read_parts l = 40 * length l.tokens.now + 30
 
-abbrev pub decreases-operands::read_part : goal.decreases-operands::read_part
-decreases-operands::read_part l = 40 * length l.tokens.now + 2
+abbrev pub decreases-selectors::read_part : goal.decreases-selectors::read_part
+decreases-selectors::read_part l = 40 * length l.tokens.now + 2
 
-abbrev pub decreases-operands::read_index : goal.decreases-operands::read_index
-decreases-operands::read_index l = 40 * length l.tokens.now + 1
+abbrev pub decreases-selectors::read_index : goal.decreases-selectors::read_index
+decreases-selectors::read_index l = 40 * length l.tokens.now + 1
 
 abbrev pub invariant-levels::read_chain-operations : goal.invariant-levels::read_chain-operations
 invariant-levels::read_chain-operations l =
@@ -66,10 +66,10 @@ invariant-levels::read_chain-operations l =
 abbrev pub decreases-levels::read_chain-operations : goal.decreases-levels::read_chain-operations
 decreases-levels::read_chain-operations l = length l.tokens
 
-abbrev pub invariant-operands::read_parts-parts : goal.invariant-operands::read_parts-parts
-invariant-operands::read_parts-parts l =
+abbrev pub invariant-selectors::read_parts-parts : goal.invariant-selectors::read_parts-parts
+invariant-selectors::read_parts-parts l =
     Leaves SpellsParts (Without part_shapes) l.fn.tokens l.tokens (λ later. l.parts ++ later) (Each SpellsPart) ×
     (length l.tokens ≤ length l.fn.tokens)
 
-abbrev pub decreases-operands::read_parts-parts : goal.decreases-operands::read_parts-parts
-decreases-operands::read_parts-parts l = length l.tokens
+abbrev pub decreases-selectors::read_parts-parts : goal.decreases-selectors::read_parts-parts
+decreases-selectors::read_parts-parts l = length l.tokens

@@ -5,7 +5,7 @@ use Rattle.gumbo_parse.specs.declared.word.Word.TheVariants as word
 use Rattle.gumbo_parse.specs.Annex.{kinds, SpellsHandler}
 use Rattle.gumbo_parse.specs.Values.{Without, texts}
 use Rattle.gumbo_parse.specs.Words.{word_spelling}
-use Rattle.gumbo_parse.proofs.sections.handlers.Given as goal
+use Rattle.gumbo_parse.proofs.entry_point.handlers.Given as goal
 
 abbrev pub invariant-handlers : goal.invariant-handlers
 invariant-handlers l =

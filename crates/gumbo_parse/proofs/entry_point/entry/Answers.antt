@@ -7,7 +7,7 @@ use Rattle.gumbo_parse.proofs.Choices.{no_members}
 use Rattle.gumbo_parse.proofs.PortForms.{both}
 use Rattle.gumbo_parse.proofs.SectionForms.{entry_opening, handlers-follow, end-without}
 use Rattle.gumbo_parse.proofs.Steps.{then, halt, next_before, halt_before, final_before, final_halt_before}
-use Rattle.gumbo_parse.proofs.sections.entry.Goals as goal
+use Rattle.gumbo_parse.proofs.entry_point.entry.Goals as goal
 
 pub returns-in_err-keyword : goal.returns-in_err-keyword
 returns-in_err-keyword c = halt _ _ _ _ (entry_opening _) (both no_members no_members) c.from_residual.ensures.1 c.in_err-keyword.ensures

@@ -10,7 +10,7 @@ use Rattle.gumbo_parse.proofs.Choices.{no_member, a_member, no_members, read-sho
 use Rattle.gumbo_parse.proofs.SectionForms.{handler-begins, handler-follows, handlers_opening}
 use Rattle.gumbo_parse.proofs.Shapes.{without-left}
 use Rattle.gumbo_parse.proofs.Steps.{next_before, halt_before}
-use Rattle.gumbo_parse.proofs.sections.handlers.Goals as goal
+use Rattle.gumbo_parse.proofs.entry_point.handlers.Goals as goal
 
 pub handlers-init : goal.handlers-init
 handlers-init c = handlers_opening _ c.new-handlers.ensures _

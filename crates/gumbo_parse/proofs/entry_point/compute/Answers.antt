@@ -5,7 +5,7 @@ use Rattle.gumbo_parse.specs.Words.{word_spelling}
 use Rattle.gumbo_parse.proofs.Choices.{absent, present}
 use Rattle.gumbo_parse.proofs.SectionForms.{compute-begins, end-without}
 use Rattle.gumbo_parse.proofs.Steps.{final_before, final_halt_before}
-use Rattle.gumbo_parse.proofs.sections.compute.Goals as goal
+use Rattle.gumbo_parse.proofs.entry_point.compute.Goals as goal
 
 pub returns-then-not-stands_word : goal.returns-then-not-stands_word
 returns-then-not-stands_word c = absent SpellsCompute _ (word_spelling word.Compute ∷ []) compute-begins (sym c.stands_word.ensures ∙ c.if-not-stands_word.true)

@@ -4,7 +4,7 @@ use Rattle.gumbo_parse.proofs.ClauseForms.{a_clause}
 use Rattle.gumbo_parse.proofs.PortForms.{a_sign, a_name, both}
 use Rattle.gumbo_parse.proofs.SectionForms.{handler_opening}
 use Rattle.gumbo_parse.proofs.Steps.{then, halt, final_before, final_halt_before}
-use Rattle.gumbo_parse.proofs.sections.handler.Goals as goal
+use Rattle.gumbo_parse.proofs.entry_point.handler.Goals as goal
 
 pub returns-in_err-keyword : goal.returns-in_err-keyword
 returns-in_err-keyword c = halt _ _ _ _ (handler_opening _) (both a_name (both (a_sign mark.Colon) (both a_clause no_members))) c.from_residual.ensures.1 c.in_err-keyword.ensures
