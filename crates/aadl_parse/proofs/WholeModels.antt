@@ -2,7 +2,7 @@
 use Rattle.std.proofs.Common.{◌≡◌, ◌≤◌, ◌<◌, ◌∙◌, sym, ap, refl, cond, ℕ, List, [], length, take, slice_get, option_and_then, Option, Some, None, subst}
 use Rattle.std.specs.Prelude.{is_some}
 use Rattle.std.specs.Option.{option_map}
-use Rattle.std.proofs.lemmas.Bool.{false≢true, le-ltb, lt-ltb}
+use Rattle.std.proofs.lemmas.Bool.{false≢true, le-ltb}
 use Rattle.std.proofs.lemmas.Option.{slice_get_within}
 use Rattle.hw_text.specs.declared.place.Place.{Place}
 use Rattle.hw_text.specs.declared.placed.Placed.{Placed}
@@ -27,9 +27,6 @@ models-one bytes ts us e f c d h k =
 -- nothing is told of a text that is small enough, before its tokens are looked at
 pub small-enough : (bytes : List ℕ) → length bytes ≤ 1048576 → told_before bytes ≡ None
 small-enough bytes small = ap (λ b. cond b (Some (too_long (length bytes))) None) (le-ltb 1048576 (length bytes) small)
-
-pub too-large : (bytes : List ℕ) → 1048576 < length bytes → told_before bytes ≡ Some (too_long (length bytes))
-too-large bytes large = ap (λ b. cond b (Some (too_long (length bytes))) None) (lt-ltb 1048576 (length bytes) large)
 
 -- behind what ends by itself nothing may stand
 pub at-end : (shapes : List (List ℕ)) → shapes ≡ [] → Without shapes []

@@ -13,7 +13,7 @@ use crate::part::{Behind, Beside, Closed, Part};
 use crate::sequence::Then;
 use crate::type_text::{TypeBody, type_of};
 use crate::word_token::CategoryWord;
-use aadl_tree::{Category, Declaration, Implementation, Token};
+use aadl_tree::{Category, Declaration, Token};
 use hw_text::{Cursor, Placed, ReadFault};
 use std::alloc::Global;
 

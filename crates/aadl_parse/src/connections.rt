@@ -36,6 +36,7 @@ impl Production for EndText {
     }
 }
 
+/// An arrow, and what stands behind it.
 pub struct Destination;
 
 impl Part for Destination {

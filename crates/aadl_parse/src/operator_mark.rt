@@ -9,7 +9,7 @@ ghost use Rattle.aadl_parse.specs.Terminals.{operator_of, operator-shaped};
 
 use crate::leaf::Terminal;
 use crate::shape::shape;
-use aadl_tree::{Association, Mark, Operator, Token};
+use aadl_tree::{Mark, Operator, Token};
 use hw_text::{NoMemory, Placed};
 use std::alloc::Global;
 

@@ -1,6 +1,6 @@
 //! The parts of which a grammar is made: what tokens spell, and how they are read.
 
-ghost use Rattle.std.specs.Prelude.{◌≡◌, ℕ, Bool, true, List, []};
+ghost use Rattle.std.specs.Prelude.{◌≡◌, ℕ, true, List, []};
 ghost use Rattle.hw_text.specs.declared.placed.Placed.{Placed};
 ghost use Rattle.hw_text.specs.Reading.{Reads, Begins, begins};
 ghost use Rattle.aadl_tree.specs.declared.token.Token.{Token};

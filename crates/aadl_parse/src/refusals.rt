@@ -1,6 +1,6 @@
 //! Why a text is no model: the refusal of each failure.
 
-ghost use Rattle.std.specs.Prelude.{◌≡◌, ◌+◌, min, IfOk};
+ghost use Rattle.std.specs.Prelude.{◌≡◌, ◌+◌, IfOk};
 ghost use Rattle.aadl_parse.specs.LeftOut.{is_left_out_name};
 ghost use Rattle.std.specs.Str.{bytes_eq};
 ghost use Rattle.aadl_parse.specs.Refusals.{plain, named, limit, too_long, unexpected, behind_quote, flawed, stopped};

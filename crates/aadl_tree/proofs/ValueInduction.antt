@@ -5,7 +5,7 @@ use Rattle.aadl_tree.specs.declared.names.Path.{Path}
 use Rattle.aadl_tree.specs.declared.names.QualifiedName.{QualifiedName}
 use Rattle.aadl_tree.specs.declared.value.PropertyValue.{PropertyValue}
 use Rattle.aadl_tree.specs.declared.value.PropertyValue.TheFolds.{ind-PropertyValue, map-PropertyValue}
-use Rattle.aadl_tree.specs.declared.value.PropertyValue.TheOpen.{PropertyValue-F, RecordField-F}
+use Rattle.aadl_tree.specs.declared.value.PropertyValue.TheOpen.{PropertyValue-F}
 use Rattle.aadl_tree.specs.declared.value.PropertyValue.TheOpen as open_value
 use Rattle.aadl_tree.specs.declared.value.PropertyValue.TheVariants as value
 use Rattle.aadl_tree.specs.declared.value.PropertyValue.TheViews.{roll-PropertyValue, roll-RecordField}

@@ -31,6 +31,7 @@ impl Operator {
 pub struct Association {
     pub property: QualifiedName,
     pub operator: Operator,
+    /// Whether `constant` stands before the value.
     pub constant: bool,
     pub first: PropertyValue,
     pub others: Rows<PropertyValue>,

@@ -5,6 +5,7 @@ use crate::class::Class;
 use crate::names::Named;
 use hw_text::Rows;
 
+/// Which way a port carries, seen from its component.
 #[derive(Clone, Copy, Debug, PartialEq, Eq)]
 pub enum Direction {
     In,

@@ -21,9 +21,6 @@ impl Model for Integer {
 }
 
 impl Integer {
-    /// The largest whole number that can be written.
-    pub const LARGEST: u128 = 170141183460469231731687303715884105727;
-
     pub fn new(value: u128) -> Integer
         requires { value < 2 ^ 127 }
         ensures { result ≡ value }

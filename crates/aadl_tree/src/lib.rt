@@ -1,4 +1,4 @@
-//! The tree of a model's text, its tokens, its grammar and its canonical text.
+//! The tree of a model's text, its tokens and its canonical text.
 #![tactic(auto)]
 
 mod annex;

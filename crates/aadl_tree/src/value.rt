@@ -7,12 +7,14 @@ use crate::quoted::Quoted;
 use crate::real::Real;
 use hw_text::{Name, Rows};
 
+/// What stands before a number.
 #[derive(Clone, Copy, Debug, PartialEq, Eq)]
 pub enum Sign {
     Plus,
     Minus,
 }
 
+/// A number, of one of the two kinds of numerals.
 #[derive(Debug, Drop)]
 pub enum Number {
     Integer(Integer),

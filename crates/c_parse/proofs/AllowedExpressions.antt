@@ -17,7 +17,7 @@ use Rattle.c_tree.specs.declared.expression.Selector.{Selector}
 use Rattle.c_tree.specs.declared.expression.Lvalue.{Lvalue}
 use Rattle.c_tree.specs.declared.expression.Expression.{Expression}
 use Rattle.c_tree.specs.declared.expression.Expression.TheFolds.{fold-roll-Expression, fold-roll-Selector, fold-roll-Lvalue, map-Expression, map-Selector}
-use Rattle.c_tree.specs.declared.expression.Expression.TheOpen.{Expression-F, Selector-F, Lvalue-F}
+use Rattle.c_tree.specs.declared.expression.Expression.TheOpen.{Selector-F, Lvalue-F}
 use Rattle.c_tree.specs.declared.expression.Expression.TheOpen as opened
 use Rattle.c_tree.specs.declared.expression.Expression.TheViews.{roll-Expression, roll-Selector, roll-Lvalue}
 use Rattle.c_parse.proofs.Allowed.{IsAllowed, AreAllowed}

@@ -12,11 +12,11 @@ use Rattle.c_tree.specs.declared.expression.Selector.TheVariants as selector
 use Rattle.c_tree.specs.declared.expression.Lvalue.{Lvalue}
 use Rattle.c_tree.specs.declared.expression.Expression.{Expression}
 use Rattle.c_tree.specs.declared.expression.Expression.TheFolds.{fold-roll-Selector, fold-roll-Lvalue, map-Selector}
-use Rattle.c_tree.specs.declared.expression.Expression.TheOpen.{Expression-F, Selector-F, Lvalue-F}
+use Rattle.c_tree.specs.declared.expression.Expression.TheOpen.{Selector-F, Lvalue-F}
 use Rattle.c_tree.specs.declared.expression.Expression.TheOpen as opened
 use Rattle.c_tree.specs.declared.expression.Expression.TheViews.{roll-Selector, roll-Lvalue}
 use Rattle.c_tree.specs.Unplaced.{unplaced_base, unplaced_step, unplaced_part_step, unplaced_lvalue_step, unplaced_expression, unplaced_part, unplaced_lvalue}
-use Rattle.c_parse.specs.ExpressionGrammar.{Sign, Name, InFull, Layer, pointed, member, start_of_base, started_at, start_in, Operation, chained, SpellsBase, SpellsExpression, SpellsOperations, SpellsPrefix, SpellsLvalue, SpellsParts, SpellsWhole}
+use Rattle.c_parse.specs.ExpressionGrammar.{pointed, member, SpellsBase, SpellsLvalue, SpellsParts, SpellsWhole}
 use Rattle.c_parse.specs.ExpressionGrammar as grammar
 use Rattle.c_parse.specs.PartGrammar.{member_part, index_part, SpellsPart}
 use Rattle.c_parse.specs.PrintedExpressions.{Written, base_tokens, expression_tokens_step, selector_tokens_step, lvalue_tokens_step, expression_tokens, selector_tokens, lvalue_tokens}

@@ -12,13 +12,12 @@ use Rattle.c_tree.specs.declared.expression.Selector.{Selector}
 use Rattle.c_tree.specs.declared.expression.Lvalue.{Lvalue}
 use Rattle.c_tree.specs.declared.expression.Expression.{Expression}
 use Rattle.c_tree.specs.declared.expression.Expression.TheFolds.{fold-roll-Expression, map-Expression}
-use Rattle.c_tree.specs.declared.expression.Expression.TheOpen.{Expression-F, Selector-F, Lvalue-F}
 use Rattle.c_tree.specs.declared.expression.Expression.TheOpen as opened
 use Rattle.c_tree.specs.declared.expression.Expression.TheVariants as expression
 use Rattle.c_tree.specs.declared.expression.Expression.TheViews.{roll-Expression}
 use Rattle.c_tree.specs.Expressions.{position_behind}
 use Rattle.c_tree.specs.Unplaced.{origin, unplaced_step, unplaced_part_step, unplaced_lvalue_step, unplaced_expression, unplaced_part, unplaced_lvalue}
-use Rattle.c_parse.specs.ExpressionGrammar.{Sign, Name, InFull, Layer, pointed, member, start_of_base, started_at, start_in, Operation, chained, SpellsBase, SpellsExpression, SpellsOperations, SpellsPrefix, SpellsLvalue, SpellsParts, SpellsWhole}
+use Rattle.c_parse.specs.ExpressionGrammar.{Sign, Layer, start_of_base, SpellsPrefix, SpellsLvalue, SpellsWhole}
 use Rattle.c_parse.specs.ExpressionGrammar as grammar
 use Rattle.c_parse.specs.Operators.{unary_of}
 use Rattle.c_parse.specs.PartGrammar.{SpellsPart}

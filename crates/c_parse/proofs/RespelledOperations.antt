@@ -7,12 +7,11 @@ use Rattle.c_tree.specs.declared.operator.BinaryOperator.TheVariants as binary_o
 use Rattle.c_tree.specs.declared.print_expression.Position.{Position}
 use Rattle.c_tree.specs.declared.print_expression.Position.TheVariants.{Whole, Operand, BehindMinus}
 use Rattle.c_tree.specs.declared.expression.Expression.{Expression}
-use Rattle.c_tree.specs.declared.expression.Expression.TheOpen.{Expression-F, Selector-F, Lvalue-F}
 use Rattle.c_tree.specs.declared.expression.Expression.TheOpen as opened
 use Rattle.c_tree.specs.declared.expression.Expression.TheVariants as expression
 use Rattle.c_tree.specs.declared.expression.Expression.TheViews.{roll-Expression}
 use Rattle.c_tree.specs.Unplaced.{origin, unplaced_expression}
-use Rattle.c_parse.specs.ExpressionGrammar.{Sign, Name, InFull, Layer, pointed, member, start_of_base, started_at, start_in, Operation, chained, SpellsBase, SpellsExpression, SpellsOperations, SpellsPrefix, SpellsLvalue, SpellsParts, SpellsWhole}
+use Rattle.c_parse.specs.ExpressionGrammar.{Sign, started_at, start_in, SpellsExpression, SpellsPrefix, SpellsWhole}
 use Rattle.c_parse.specs.ExpressionGrammar as grammar
 use Rattle.c_parse.specs.Levels.{binary_level, prefix_level}
 use Rattle.c_parse.specs.Operators.{binary_at}

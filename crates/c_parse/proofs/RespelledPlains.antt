@@ -21,7 +21,7 @@ use Rattle.c_parse.specs.CountGrammar.{count_start_of, SpellsCountStart, count_e
 use Rattle.c_parse.specs.PlainGrammar.{local_of, assign_of, SpellsPlain}
 use Rattle.c_parse.specs.PrintedStatements.{signed_tokens, count_end_tokens, otherwise_tokens_step, branch_tokens_step, statement_tokens_step, statement_tokens, branch_tokens, otherwise_tokens}
 use Rattle.c_parse.specs.PrintedExpressions.{integer_token, lvalue_tokens, right_tokens}
-use Rattle.c_parse.specs.StatementGrammar.{count_of, SpellsStatement, SpellsLoop, SpellsStatements, SpellsBlock, SpellsBranch, SpellsElseIfs, SpellsOtherwise}
+use Rattle.c_parse.specs.StatementGrammar.{SpellsStatement, SpellsBranch, SpellsOtherwise}
 use Rattle.c_parse.specs.StatementGrammar as grammar
 use Rattle.c_parse.specs.UserUnits.{is_user_lvalue, is_user_right, is_user_statement_step, is_user_branch_step, is_user_otherwise_step, is_user_statement, is_user_branch, is_user_otherwise}
 use Rattle.c_parse.specs.declared.counting.CountStart.{CountStart}

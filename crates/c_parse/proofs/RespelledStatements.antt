@@ -15,13 +15,12 @@ use Rattle.c_tree.specs.declared.statement.Otherwise.{Otherwise}
 use Rattle.c_tree.specs.declared.statement.Otherwise.TheVariants as otherwise
 use Rattle.c_tree.specs.declared.statement.Statement.{Statement}
 use Rattle.c_tree.specs.declared.statement.Statement.TheVariants as statement
-use Rattle.c_tree.specs.declared.statement.Otherwise.TheOpen.{Statement-F, Branch-F, Otherwise-F}
 use Rattle.c_tree.specs.declared.statement.Otherwise.TheOpen as opened
 use Rattle.c_tree.specs.declared.statement.Otherwise.TheViews.{roll-Statement, roll-Branch, roll-Otherwise}
 use Rattle.c_parse.specs.PlainGrammar.{SpellsCondition}
 use Rattle.c_parse.specs.PrintedStatements.{block_tokens, else_tokens, statement_tokens, branch_tokens, otherwise_tokens}
 use Rattle.c_parse.specs.PrintedExpressions.{right_tokens}
-use Rattle.c_parse.specs.StatementGrammar.{LinksFit, count_of, SpellsStatement, SpellsLoop, SpellsStatements, SpellsBlock, SpellsBranch, SpellsElseIfs, SpellsOtherwise}
+use Rattle.c_parse.specs.StatementGrammar.{LinksFit, count_of, SpellsStatement, SpellsLoop, SpellsStatements, SpellsBlock, SpellsElseIfs}
 use Rattle.c_parse.specs.StatementGrammar as grammar
 use Rattle.c_parse.specs.UserUnits.{is_user_right, is_user_statement, is_user_branch, is_user_otherwise}
 use Rattle.c_parse.specs.Values.{Tokens}

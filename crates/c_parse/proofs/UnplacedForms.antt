@@ -11,7 +11,6 @@ use Rattle.c_tree.specs.declared.expression.Selector.TheVariants as selector
 use Rattle.c_tree.specs.declared.expression.Lvalue.{Lvalue}
 use Rattle.c_tree.specs.declared.expression.Expression.{Expression}
 use Rattle.c_tree.specs.declared.expression.Expression.TheFolds.{fold-roll-Expression, fold-roll-Selector, fold_out-Expression, fold_out-Lvalue, map-Expression}
-use Rattle.c_tree.specs.declared.expression.Expression.TheOpen.{Expression-F}
 use Rattle.c_tree.specs.declared.expression.Expression.TheOpen as opened
 use Rattle.c_tree.specs.declared.expression.Expression.TheVariants as expression
 use Rattle.c_tree.specs.declared.expression.Expression.TheViews.{roll-Expression, out-Expression}

@@ -38,6 +38,7 @@ pub fn parse_full(alloc: Global, bytes: &[u8]) -> Result<Unit, Fault>
 pub fn parse(alloc: Global, bytes: &[u8]) -> Result<Unit, Fault>
     ensures accepted { IfOk result (λ unit. IsAccepted user_rules bytes.now unit) }
     ensures rejected { IfRefused result (λ refusal. IsRejected user_rules bytes.now refusal) }
+    ensures of_users { IfOk result (λ unit. is_user_unit unit ≡ true) }
     ensures printed { (u : CUnit) → bytes.now ≡ unit_text u → is_spelled_unit u ≡ true → is_user_unit u ≡ true → IsWithinLimits false u → IfOk result (SameUnit u) × IfRefused result (λ refusal. ⊥) }
 {
     if bytes.len() > LARGEST {

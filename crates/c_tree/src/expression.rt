@@ -52,6 +52,7 @@ pub enum Expression {
     Unary {
         start: Place,
         operator: UnaryOperator,
+        /// Where the operator stands.
         place: Place,
         operand: Boxed<Expression>,
     },
@@ -65,6 +66,7 @@ pub enum Expression {
     Binary {
         start: Place,
         operator: BinaryOperator,
+        /// Where the operator stands.
         place: Place,
         left: Boxed<Expression>,
         right: Boxed<Expression>,
@@ -79,6 +81,7 @@ pub enum Argument {
     Value(Expression),
 }
 
+/// A call of a function by its name.
 #[derive(Debug, Drop)]
 pub struct Call {
     pub name: Named,

@@ -98,6 +98,7 @@ pub struct Function {
     pub body: Rows<Statement>,
 }
 
+/// What a unit is made of, one behind the other.
 #[derive(Debug, Drop)]
 pub enum Item {
     Enumeration(Enumeration),

@@ -37,7 +37,6 @@ pub use operator::{BinaryOperator, UnaryOperator};
 pub use statement::{Branch, LocalValue, Otherwise, Statement};
 pub use type_name::TypeName;
 pub use unit::{Unit, print};
-pub use word::is_word;
 
 #[cfg(test)]
 mod tests;

@@ -4,12 +4,14 @@ use crate::identifier::Identifier;
 use crate::numeral::Numeral;
 use hw_text::Place;
 
+/// A name where it stands.
 #[derive(Debug, Drop)]
 pub struct Named {
     pub name: Identifier,
     pub place: Place,
 }
 
+/// A literal where it stands, as it is spelled.
 #[derive(Debug, Drop)]
 pub struct Literal {
     pub numeral: Numeral,

@@ -31,6 +31,7 @@ pub enum Otherwise {
     Block(Rows<Statement>),
 }
 
+/// A statement; what is not listed here is none of the subset.
 #[cycle(statement)]
 #[derive(Debug, Drop)]
 pub enum Statement {

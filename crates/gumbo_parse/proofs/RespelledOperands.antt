@@ -19,7 +19,7 @@ use Rattle.gumbo_parse.specs.declared.token.Token.{Token}
 use Rattle.gumbo_parse.specs.declared.token.Token.TheVariants as token
 use Rattle.gumbo_parse.specs.declared.word.Word.TheVariants as word
 use Rattle.gumbo_parse.specs.ExpressionTokens.{Written, port_tokens, truth_word, in_parentheses, expression_tokens, selector_tokens}
-use Rattle.gumbo_parse.specs.Grammar.{Sign, Name, Spells, SpellsOperand, SpellsStarted, SpellsSent, SpellsGroup, SpellsParts, SpellsPart, SpellsIn, SpellsAsked, SpellsField, SpellsQuantification, truths, tests, number_at, truth_at, test_of, sent_of, field_of, quantified_of, value_of, before_of, must_send_of, grouped_of, index_of, start_of, SpellsNumber, SpellsTruth, SpellsTest, SpellsPort, SpellsParenthesised, SpellsIndex}
+use Rattle.gumbo_parse.specs.Grammar.{Name, Spells, SpellsOperand, SpellsStarted, SpellsSent, SpellsGroup, SpellsParts, SpellsPart, truths, tests, number_at, truth_at, test_of, sent_of, field_of, quantified_of, value_of, before_of, must_send_of, grouped_of, index_of, start_of}
 use Rattle.gumbo_parse.specs.Grammar as grammar
 use Rattle.gumbo_parse.specs.Operators.{test_word}
 use Rattle.gumbo_parse.specs.Unplaced.{unplaced_named, unplaced_expression, unplaced_part}

@@ -231,7 +231,3 @@ index_of p = Index p.1.0.0 p.1.0.1
 
 abbrev pub SpellsIndex : Selector → Tokens → Type 0
 SpellsIndex = Made index_of (Sign mark.OpenBracket ⋅ SpellsStarted ⋅ Sign mark.CloseBracket)
-
--- an expression as it stands alone
-abbrev pub SpellsExpression : Expression → Tokens → Type 0
-SpellsExpression = Spells level.Implication
