@@ -15,6 +15,7 @@ use Rattle.hamr_tool.specs.declared.thin.device.Device.{Device}
 use Rattle.hamr_tool.specs.declared.thin.heading.ImplementationName.{ImplementationName as ThinName}
 use Rattle.hamr_tool.specs.declared.thin.heading.Heading.{Heading}
 use Rattle.hamr_tool.specs.declared.thin.model.ThinModel.{ThinModel}
+use Rattle.hamr_tool.specs.Steps.{◌>>=◌}
 use Rattle.hamr_tool.specs.Instance.{instance_of}
 use Rattle.hamr_tool.specs.Model.{IsThinModel}
 use Rattle.hamr_tool.specs.Tree.{IsTree}
