@@ -59,6 +59,3 @@ pub use lexer::{Lexed, read_tokens};
 pub use printed::printed_is_text;
 pub use reader::parse;
 pub use stop::Stop;
-
-#[cfg(test)]
-mod tests;

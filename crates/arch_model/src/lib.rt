@@ -21,6 +21,3 @@ pub use pd::{Pd, PdList};
 pub use port::{Port, PortList};
 pub use receivers::Receivers;
 pub use role::Role;
-
-#[cfg(test)]
-mod tests;

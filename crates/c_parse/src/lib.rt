@@ -72,6 +72,3 @@ pub use typedefs::typedef;
 pub use types::{length, signed_literal, stands_integer, type_name};
 pub use user_units::user_texts_are_of_user_units;
 pub use words::{stands_word, word};
-
-#[cfg(test)]
-mod tests;

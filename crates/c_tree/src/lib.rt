@@ -37,6 +37,3 @@ pub use operator::{BinaryOperator, UnaryOperator};
 pub use statement::{Branch, LocalValue, Otherwise, Statement};
 pub use type_name::TypeName;
 pub use unit::{Unit, print};
-
-#[cfg(test)]
-mod tests;

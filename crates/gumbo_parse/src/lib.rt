@@ -43,8 +43,6 @@ mod selectors;
 mod symbols;
 mod table;
 mod terminals;
-#[cfg(test)]
-mod tests;
 mod token;
 mod whole;
 mod word;

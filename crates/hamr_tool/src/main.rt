@@ -1,32 +1,13 @@
-//! `hamr`: the program and its top call.
+//! The program `hamr`.
 #![tactic(auto)]
 
-mod cause;
-mod command;
-mod domains;
-mod files;
-mod judge;
-mod judgement;
-mod laws;
-mod model_file;
-mod outputs;
-mod package;
-mod report;
-mod status;
-mod thin;
-mod tidy;
-mod top;
-mod trace;
-mod verdict;
+pub use hamr_cli::{Status, hamr};
 
 use hw_io::{DirStore, OutSink};
 use hw_text::{NoMemory, WordList};
-use report::Report;
-use status::Status;
 use std::alloc::Global;
 use std::process::ExitCode;
 use std::{env, io};
-use top::hamr;
 
 /// Runs the top call over the files and the standard output, and exits with the status's number.
 fn main(rt: HostRuntime) -> ExitCode {
@@ -53,14 +34,3 @@ fn words(rt: &HostRuntime, alloc: Global) -> Result<WordList, NoMemory> {
     }
     Ok(words)
 }
-
-#[cfg(test)]
-mod model_tests;
-#[cfg(test)]
-mod refusal_tests;
-#[cfg(test)]
-mod size_tests;
-#[cfg(test)]
-mod tests;
-#[cfg(test)]
-mod tidy_tests;

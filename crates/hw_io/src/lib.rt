@@ -23,6 +23,3 @@ pub use out_sink::OutSink;
 pub use sink::Sink;
 pub use store::Store;
 pub use writing::write_all;
-
-#[cfg(test)]
-mod tests;

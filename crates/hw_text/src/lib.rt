@@ -46,6 +46,3 @@ pub use rows::Rows;
 pub use text_buf::TextBuf;
 pub use whole::Whole;
 pub use word_list::WordList;
-
-#[cfg(test)]
-mod tests;

@@ -24,6 +24,3 @@ pub use scalar::Scalar;
 pub use spot::Spot;
 pub use ty::{Ty, TyList};
 pub use value::{Value, ValueList};
-
-#[cfg(test)]
-mod tests;

@@ -1,0 +1,65 @@
+-- From what was read to what is judged.
+use Rattle.std.proofs.Common.{◌≡◌, ◌∙◌, ℕ, List, Option, Result, Ok, Err, IfOk, sym}
+use Rattle.hamr_cli.specs.declared.report.Report.{Report}
+use Rattle.aadl_tree.specs.declared.package.Package.{Package}
+use Rattle.arch_model.specs.declared.parts.ArchParts.{ArchParts}
+use Rattle.hw_text.specs.declared.no_memory.NoMemory.{NoMemory}
+use Rattle.hamr_cli.specs.declared.files.Stop.{Stop}
+use Rattle.hamr_cli.specs.declared.judgement.Judgement.{Judgement}
+use Rattle.hamr_cli.specs.declared.judgement.Judgement.TheVariants as judgement
+use Rattle.hamr_cli.specs.declared.trace.fault.TraceFault.{TraceFault}
+use Rattle.hamr_cli.specs.declared.trace.fault.TraceFault.TheVariants as fault
+use Rattle.hamr_cli.specs.declared.trace.line.Line.{Line}
+use Rattle.hamr_cli.specs.Judge.{IsJudgedTrace, IsJudgedBy, IsJudged, JudgeTells, UnreadAs}
+use Rattle.hamr_cli.specs.Trace.{IsTraceOf, IsFirstBadLine}
+use Rattle.hamr_cli.specs.TraceFault.{OnBadLine, GivesTrace, GivesBadLine}
+
+-- a trace that was not read
+pub unread_trace : (arch : ArchParts) (bytes : List ℕ) (f : TraceFault) (answer : Result Judgement NoMemory) → UnreadAs f answer →
+    OnBadLine {X = List Line} (Err f) (λ number. IsFirstBadLine arch bytes number) →
+    ((lines : List Line) → IsTraceOf arch bytes lines → GivesTrace (Err f) lines) →
+    ((number : ℕ) → IsFirstBadLine arch bytes number → GivesBadLine {X = List Line} (Err f) number) →
+    IfOk answer (λ found. IsJudgedTrace arch bytes found)
+unread_trace arch bytes (fault.BadLine number) answer ends first none only =
+    rw ends (record { first = first; only = λ other is. sym (only other is); none = none })
+unread_trace arch bytes fault.NoMemory answer ends first none only = rw ends tt
+
+pub IfOk-map : (answer : Result Judgement Stop) (P Q : Judgement → Type 0) → ((found : Judgement) → P found → Q found) → IfOk answer P → IfOk answer Q
+IfOk-map (Ok found) P Q each held = each found held
+IfOk-map (Err stop) P Q each held = tt
+
+pub judged-by : (held : List ℕ → Option (List ℕ)) (tree : Package) (trace : List ℕ) (found : Judgement) → IsJudgedBy held tree trace found → IsJudged held tree trace found
+judged-by held tree trace judgement.NotBuilt by = absurd by.judged.judged
+judged-by held tree trace (judgement.BadLine number) by = by
+judged-by held tree trace judgement.Legal by = by
+judged-by held tree trace (judgement.Illegal number rule) by = by
+
+pub report-map : (answer : Result Report Stop) (P Q : Report → Type 0) → ((report : Report) → P report → Q report) → IfOk answer P → IfOk answer Q
+report-map (Ok report) P Q each told = each report told
+report-map (Err stop) P Q each told = tt
+
+-- what is told of files that were held before
+judged-earlier : (held after : List ℕ → Option (List ℕ)) (tree : Package) (trace : List ℕ) (found : Judgement) → ((name : List ℕ) → after name ≡ held name) → IsJudgedBy after tree trace found → IsJudgedBy held tree trace found
+judged-earlier held after tree trace found kept by = record {
+  arch = by.arch;
+  is_thin = by.is_thin;
+  only = by.only;
+  judged = record {
+    bytes = by.judged.bytes;
+    trace_held = sym (kept trace) ∙ by.judged.trace_held;
+    judged = by.judged.judged;
+  };
+}
+
+earlier : (held after : List ℕ → Option (List ℕ)) (tree : Package) (trace : List ℕ) (found : Judgement) → ((name : List ℕ) → after name ≡ held name) → IsJudged after tree trace found → IsJudged held tree trace found
+earlier held after tree trace judgement.NotBuilt kept by = by
+earlier held after tree trace (judgement.BadLine number) kept by = judged-earlier held after tree trace (judgement.BadLine number) kept by
+earlier held after tree trace judgement.Legal kept by = judged-earlier held after tree trace judgement.Legal kept by
+earlier held after tree trace (judgement.Illegal number rule) kept by = judged-earlier held after tree trace (judgement.Illegal number rule) kept by
+
+pub tells-earlier : (held after : List ℕ → Option (List ℕ)) (model trace : List ℕ) (tree : Package) (report : Report) → ((name : List ℕ) → after name ≡ held name) → JudgeTells after model trace tree report → JudgeTells held model trace tree report
+tells-earlier held after model trace tree report kept tells = record {
+  found = tells.found;
+  judged = earlier held after tree trace tells.found kept tells.judged;
+  told = tells.told;
+}

@@ -1,0 +1,48 @@
+//! Reading the files that the words name.
+
+ghost use Rattle.std.specs.Prelude.{◌≡◌, List, ℕ, Some, true, IfOk};
+ghost use Rattle.hw_io.specs.Count.{NeverFalls};
+ghost use Rattle.hamr_cli.specs.Outside.{seen};
+ghost use Rattle.hamr_cli.specs.Stop.{OnStopped, IsOutside};
+
+use crate::Report;
+use crate::cause::{absent_file, unreadable_file};
+use hw_io::{ReadAnswer, Store};
+use hw_text::{ByteList, NoMemory};
+use std::alloc::Global;
+
+/// What ends a command before its own text.
+#[derive(Debug, Drop)]
+pub enum Stop {
+    /// This is told in its place.
+    Told(Report),
+    NoMemory,
+}
+
+impl From<NoMemory> for Stop {
+    ghost use Rattle.std.specs.Prelude.{◌≡◌};
+    ghost use Rattle.hamr_cli.specs.declared.files.Stop.TheVariants.{NoMemory as stop_no_memory};
+
+    ghost from_gives = { λ _ stop. stop ≡ stop_no_memory };
+
+    fn from(_: NoMemory) -> Self {
+        Stop::NoMemory
+    }
+}
+
+/// The bytes of a file, or what is told where it can't be read.
+pub fn read_file<S: Store>(alloc: Global, store: &mut S, file: &str) -> Result<ByteList, Stop>
+    ensures bytes { IfOk result (λ bytes. S.tells store.old ≡ true → S.held store.old file.now ≡ Some bytes) }
+    ensures stopped { OnStopped result (λ report. IsOutside (seen S.tells S.held S.read_faults S.absences store.old store.new) file.now report) }
+    ensures tells { S.tells store.new ≡ S.tells store.old }
+    ensures kept { (name : List ℕ) → S.held store.new name ≡ S.held store.old name }
+    ensures read_faults { NeverFalls (S.read_faults store.old) (S.read_faults store.new) }
+    ensures absences { NeverFalls (S.absences store.old) (S.absences store.new) }
+{
+    match store.read(alloc, file) {
+        ReadAnswer::Bytes(bytes) => Ok(bytes),
+        ReadAnswer::Absent => Err(Stop::Told(absent_file(alloc, file)?)),
+        ReadAnswer::Failed => Err(Stop::Told(unreadable_file(alloc, file)?)),
+        ReadAnswer::NoMemory => Err(Stop::NoMemory),
+    }
+}

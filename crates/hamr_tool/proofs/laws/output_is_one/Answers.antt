@@ -1,5 +1,0 @@
-use Rattle.hamr_tool.proofs.One.{output-one}
-use Rattle.hamr_tool.proofs.laws.output_is_one.Goals as goal
-
-pub returns : goal.returns
-returns c = output-one

@@ -1,6 +1,0 @@
-use Rattle.std.proofs.Common.{take, All}
-use Rattle.hamr_tool.specs.Model.{HasThinQueue}
-use Rattle.hamr_tool.proofs.thin.checks.have_thin_queues.Given as goal
-
-abbrev pub invariant-loop-feature : goal.invariant-loop-feature
-invariant-loop-feature l = All HasThinQueue (take l.feature-index l.features)

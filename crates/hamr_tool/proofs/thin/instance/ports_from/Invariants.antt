@@ -1,9 +1,0 @@
-use Rattle.std.proofs.Common.{◌≡◌, ◌++◌, drop}
-use Rattle.hamr_tool.specs.Instance.{ports_from}
-use Rattle.hamr_tool.proofs.thin.instance.ports_from.Given as goal
-
-abbrev pub invariant-loop-subcomponent : goal.invariant-loop-subcomponent
-invariant-loop-subcomponent l = record {
-  counted : l.domain ≡ l.subcomponent-index;
-  same : l.ports ++ ports_from l.devices l.domain (drop l.subcomponent-index l.subcomponents) ≡ ports_from l.devices 0 l.subcomponents;
-}

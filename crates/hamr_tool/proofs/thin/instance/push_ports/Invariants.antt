@@ -1,6 +1,0 @@
-use Rattle.std.proofs.Common.{◌≡◌, ◌++◌, take, map}
-use Rattle.hamr_tool.specs.Instance.{port_of}
-use Rattle.hamr_tool.proofs.thin.instance.push_ports.Given as goal
-
-abbrev pub invariant-loop-feature : goal.invariant-loop-feature
-invariant-loop-feature l = l.ports ≡ l.fn.ports ++ map (port_of l.domain) (take l.feature-index l.features)

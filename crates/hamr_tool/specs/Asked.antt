@@ -1,8 +1,0 @@
--- The command that a value of the program's type stands for.
-use Rattle.hamr_tool.specs.declared.command.Command.{Command as Asked}
-use Rattle.hamr_tool.specs.declared.command.Command.TheVariants.{Judge, Tidy}
-use Rattle.hamr_tool.specs.Command.{Command, judge, tidy}
-
-abbrev pub asked : Asked → Command
-asked (Judge model trace) = judge model.now trace.now
-asked (Tidy model) = tidy model.now
