@@ -24,9 +24,9 @@ pub struct DirStore<'a, R: Files> {
 impl<'a, R: Files> DirStore<'a, R> {
     /// The files of a runtime, with no fault counted.
     pub fn new(files: &'a R) -> Self
-        ensures read_faults { (name : List ℕ) → ⟦<DirStore<'a, R> as Store>⟧.read_faults result name ≡ 0 }
-        ensures write_faults { (name : List ℕ) → ⟦<DirStore<'a, R> as Store>⟧.write_faults result name ≡ 0 }
-        ensures absences { (name : List ℕ) → ⟦<DirStore<'a, R> as Store>⟧.absences result name ≡ 0 }
+        ensures read_faults { (name : List ℕ) → (⟦<DirStore<'a, R> as Store>⟧.means result).read_faults name ≡ 0 }
+        ensures write_faults { (name : List ℕ) → (⟦<DirStore<'a, R> as Store>⟧.means result).write_faults name ≡ 0 }
+        ensures absences { (name : List ℕ) → (⟦<DirStore<'a, R> as Store>⟧.means result).absences name ≡ 0 }
     {
         DirStore {
             files,
@@ -38,15 +38,13 @@ impl<'a, R: Files> DirStore<'a, R> {
 }
 
 impl<'a, R: Files> Store for DirStore<'a, R> {
-    ghost tells = { λ _. false };
-
-    ghost held = { λ _ _. None };
-
-    ghost read_faults = { λ s _. s.read_faults };
-
-    ghost write_faults = { λ s _. s.write_faults };
-
-    ghost absences = { λ s _. s.absences };
+    ghost means = { λ s. record {
+      tells = false;
+      held = λ _. None;
+      read_faults = λ _. s.read_faults;
+      write_faults = λ _. s.write_faults;
+      absences = λ _. s.absences;
+    } };
 
     fn read(&mut self, alloc: Global, name: &str) -> ReadAnswer {
         match read_file(alloc, self.files, name) {

@@ -67,9 +67,7 @@ impl MemSink {
 }
 
 impl Sink for MemSink {
-    ghost written = { λ s. Some s.bytes };
-
-    ghost faults = { λ s. s.faults };
+    ghost means = { λ s. record { written = Some s.bytes; faults = s.faults } };
 
     fn write(&mut self, bytes: &[u8]) -> Result<usize, SinkFault>
         ensures fault { IsErr result ↔ Fails self.old bytes.now }

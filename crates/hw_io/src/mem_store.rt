@@ -96,15 +96,13 @@ impl MemStore {
 }
 
 impl Store for MemStore {
-    ghost tells = { λ _. true };
-
-    ghost held = { λ s name. held_in s.files name };
-
-    ghost read_faults = { λ s _. s.read_faults };
-
-    ghost write_faults = { λ s _. s.write_faults };
-
-    ghost absences = { λ s _. s.absences };
+    ghost means = { λ s. record {
+      tells = true;
+      held = held_in s.files;
+      read_faults = λ _. s.read_faults;
+      write_faults = λ _. s.write_faults;
+      absences = λ _. s.absences;
+    } };
 
     fn read(&mut self, alloc: Global, name: &str) -> ReadAnswer
         ensures answer { ReadGives self.old name.now result }

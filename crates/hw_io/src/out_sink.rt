@@ -18,16 +18,14 @@ pub struct OutSink<W: Write + Drop> {
 impl<W: Write + Drop> OutSink<W> {
     /// A sink over this writer, with no fault counted.
     pub fn new(out: W) -> Self
-        ensures { ⟦<OutSink<W> as Sink>⟧.faults result ≡ 0 }
+        ensures { (⟦<OutSink<W> as Sink>⟧.means result).faults ≡ 0 }
     {
         OutSink { out, faults: 0 }
     }
 }
 
 impl<W: Write + Drop> Sink for OutSink<W> {
-    ghost written = { λ _. None };
-
-    ghost faults = { λ s. s.faults };
+    ghost means = { λ s. record { written = None; faults = s.faults } };
 
     fn write(&mut self, bytes: &[u8]) -> Result<usize, SinkFault> {
         match write_some(&mut self.out, bytes) {

@@ -6,8 +6,8 @@ use Rattle.hw_io.proofs.writing.write_all.Given as goal
 abbrev pub invariant-loop-done : goal.invariant-loop-done
 invariant-loop-done g l = record {
   within : l.done ≤ length l.bytes;
-  written : Appends (g.O.Sink.written l.fn.sink) (g.O.Sink.written l.sink) (take l.done l.bytes);
-  counted : g.O.Sink.faults l.fn.sink ≤ g.O.Sink.faults l.sink;
+  written : Appends (g.O.Sink.means l.fn.sink).written (g.O.Sink.means l.sink).written (take l.done l.bytes);
+  counted : (g.O.Sink.means l.fn.sink).faults ≤ (g.O.Sink.means l.sink).faults;
 }
 
 abbrev pub decreases-loop-done : goal.decreases-loop-done
