@@ -1,7 +1,7 @@
 pub mod Alls
-pub mod Causes
 pub mod DeclarationTrees
 pub mod Devices
+mod Due
 pub mod FeatureTrees
 pub mod Instances
 pub mod Judged
@@ -15,8 +15,9 @@ pub mod PackageTrees
 pub mod Pairs
 pub mod PartTrees
 pub mod Ports
+mod Rows
 pub mod Runs
-pub mod Served
+mod Served
 pub mod Stays
 pub mod TraceActs
 pub mod TraceDomains

@@ -20,7 +20,7 @@ use Rattle.hamr_cli.specs.Cause.{report_of, refused}
 use Rattle.hamr_cli.specs.ModelFile.{OnModel}
 use Rattle.hamr_cli.specs.Tidy.{IsTidied}
 use Rattle.hamr_cli.specs.Judge.{IsJudgedBy, IsJudged, JudgeTells, told_of, events_of}
-use Rattle.hamr_cli.specs.Answer.{OutputIsOne}
+use Rattle.hamr_cli.specs.Output.{Output, PrintsAlone, OutputIsOne}
 use Rattle.hamr_cli.specs.Command.{judge, tidy}
 
 -- the first event that no rule allows stands at one place
@@ -147,7 +147,16 @@ judge-one : (held : List ℕ → Option (List ℕ)) (model trace : List ℕ) (p 
 judge-one held model trace p r s h k =
     h.told ∙ ap (λ (found : Judgement). told_of model trace found) (judgement-one held p trace h.found k.found h.judged k.judged) ∙ sym k.told
 
+-- a command that writes nothing has one output, where it has one report
+alone-one : (Tells : Report → Type 0) → ((r s : Report) → Tells r → Tells s → r ≡ s) → (one other : Output) → PrintsAlone Tells one → PrintsAlone Tells other → one ≡ other
+alone-one Tells same one other h k =
+    let reports = same one.report other.report h.tells k.tells in
+    let files : one.files ≡ other.files = h.no_files ∙ sym k.no_files in
+    rw (reports, files) refl
+
 -- there is one output
 pub output-one : OutputIsOne
-output-one held (judge model trace) one other gives gives' = model-one held model (JudgeTells held model trace) (judge-one held model trace) one other gives gives'
-output-one held (tidy model) one other gives gives' = model-one held model IsTidied (λ p r s h k. h.told ∙ sym k.told) one other gives gives'
+output-one held (judge model trace) one other gives gives' =
+    alone-one (OnModel held model (JudgeTells held model trace)) (model-one held model (JudgeTells held model trace) (judge-one held model trace)) one other gives gives'
+output-one held (tidy model) one other gives gives' =
+    alone-one (OnModel held model IsTidied) (model-one held model IsTidied (λ p r s h k. h.told ∙ sym k.told)) one other gives gives'

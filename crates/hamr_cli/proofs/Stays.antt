@@ -13,7 +13,7 @@ use Rattle.aadl_parse.specs.Rules.{model_rules}
 use Rattle.aadl_parse.proofs.PrintedLaw.{printed}
 use Rattle.hamr_cli.specs.declared.report.Report.{Report}
 use Rattle.hamr_cli.specs.declared.status.Status.TheVariants as status
-use Rattle.hamr_cli.specs.Answer.{TidiedStays}
+use Rattle.hamr_cli.specs.Output.{Output, TidiedStays}
 use Rattle.hamr_cli.specs.ModelFile.{HoldsPackage, OnModel}
 use Rattle.hamr_cli.specs.Tidy.{tidied, IsTidyText, IsTidied}
 
@@ -47,5 +47,7 @@ tidy-of held model p report holds limits (inr takes) =
     takes.tells.stays (subst IsWithinLimits tree limits)
 
 pub tidied-stays : TidiedStays
-tidied-stays held after model file p report again holds limits gives kept gives' =
-    of_tidy after file report again (tidy-of held model p report holds limits gives) kept gives'
+tidied-stays held after model file p output again holds limits gives kept gives' =
+    let reports = of_tidy after file output.report again.report (tidy-of held model p output.report holds limits gives.tells) kept gives'.tells in
+    let files : again.files ≡ output.files = gives'.no_files ∙ sym gives.no_files in
+    rw (reports, files) refl

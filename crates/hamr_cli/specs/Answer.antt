@@ -1,201 +1,111 @@
--- The answer of the program: what it prints and its status, from the words, the files and the outside.
-use Rattle.std.specs.Prelude.{◌≡◌, ◌⊎◌, ℕ, true, List, Option, Some}
-use Rattle.hw_io.specs.Count.{HasRisen}
+-- The answer of a call: what it prints and writes and its status, from the words, and the outside before and after.
+use Rattle.std.specs.Prelude.{◌≡◌, ◌⊎◌, ℕ, true, List, length, take, Some, None, IsSome, slice_get}
+use Rattle.hw_io.specs.Meaning.{StoreMeaning, SinkMeaning, ReadFailed, WriteFailed, FoundNothing, SinkFailed}
 use Rattle.hw_io.specs.Written.{Appends, SentPart}
 use Rattle.hamr_cli.specs.declared.status.Status.{Status}
 use Rattle.hamr_cli.specs.declared.status.Status.TheVariants as status
 use Rattle.hamr_cli.specs.declared.report.Report.{Report}
-use Rattle.hamr_cli.specs.Cause.{report_of, words, absent, read_fault}
-use Rattle.hamr_cli.specs.Command.{Command, judge, tidy, IsRow, IsNoRow}
-use Rattle.hamr_cli.specs.Order.{IsReached}
-use Rattle.hamr_cli.specs.Outside.{Seen, WasAbsent, FaultRose}
-use Rattle.aadl_tree.specs.declared.package.Package.{Package}
-use Rattle.aadl_parse.specs.Printed.{IsWithinLimits}
-use Rattle.hamr_cli.specs.Judge.{JudgeTells, AreAccepted}
-use Rattle.hamr_cli.specs.ModelFile.{OnModel, HoldsPackage}
-use Rattle.hamr_cli.specs.Tidy.{IsTidied}
+use Rattle.hamr_cli.specs.Cause.{report_of, words, absent, read_fault, write_fault}
+use Rattle.hamr_cli.specs.Command.{Command, IsRow, IsNoRow}
+use Rattle.hamr_cli.specs.Files.{File, HasWritten}
+use Rattle.hamr_cli.specs.Kept.{HoldsTheSame}
+use Rattle.hamr_cli.specs.Outside.{Outside}
+use Rattle.hamr_cli.specs.Output.{Output, Gives}
+use Rattle.hamr_cli.specs.Reads.{IsTurnOf, IsTold}
+use Rattle.hamr_cli.specs.Status.{IsOfContent}
 
--- the output of each command, by the bytes of the files that it names
-abbrev pub Gives : (List ℕ → Option (List ℕ)) → Command → Report → Type 0
-Gives held (judge model trace) report = OnModel held model (JudgeTells held model trace) report
-Gives held (tidy model) report = OnModel held model IsTidied report
+-- the command's own output is to be printed, and its files are written
+pub record IsForOutput (command : Command) (before after : StoreMeaning) (report : Report) : Type 0 where
+  pub output : Output
+  pub told : report ≡ output.report
+  pub content : IsOfContent report.status
+  pub gives : IsTold before command → Gives before.held command output
+  pub left : HasWritten before after output.files (length output.files)
 
--- what the files hold decides the output
-abbrev pub OutputIsOne : Type 0
-OutputIsOne = (held : List ℕ → Option (List ℕ)) (command : Command) (one other : Report) → Gives held command one → Gives held command other → one ≡ other
-
--- a file holds what `tidy` printed of a model, and that is within the limits: `tidy` of this file prints the same
-abbrev pub TidiedStays : Type 0
-TidiedStays =
-    (held after : List ℕ → Option (List ℕ)) (model file : List ℕ) (tree : Package) (report again : Report) →
-    HoldsPackage held model tree → IsWithinLimits tree → Gives held (tidy model) report →
-    after file ≡ Some report.text → Gives after (tidy file) again → again ≡ report
-
--- the files that the command reads are accepted
-abbrev pub Accepts : (List ℕ → Option (List ℕ)) → Command → Type 0
-Accepts held (judge model trace) = AreAccepted held model trace
-Accepts held (tidy model) = (tree : Package) × HoldsPackage held model tree
-
--- the words are no row
-pub record IsForWords (asked : List (List ℕ)) (report : Report) : Type 0 where
-  pub no_row : IsNoRow asked
-  pub told : report ≡ report_of words
-
--- the files hold it
-pub record IsForContent (s : Seen) (asked : List (List ℕ)) (report : Report) : Type 0 where
-  pub command : Command
-  pub row : IsRow asked command
-  pub gives : s.tells ≡ true → Gives s.held command report
-
--- a file that the words name, and whose turn it was, was not there
-pub record IsForAbsence (s : Seen) (asked : List (List ℕ)) (report : Report) : Type 0 where
-  pub command : Command
-  pub row : IsRow asked command
+-- a file of the command, whose turn it was, was not there
+pub record IsForAbsence (command : Command) (before after : StoreMeaning) (report : Report) : Type 0 where
   pub file : List ℕ
-  pub reached : IsReached s command file
-  pub was_absent : WasAbsent s file
+  pub turn : IsTurnOf before command file
+  pub rose : FoundNothing before after file
+  pub missing : before.tells ≡ true → before.held file ≡ None
   pub told : report ≡ report_of (absent file)
+  pub left : HoldsTheSame before after
 
--- a file that the words name, and whose turn it was, could not be read
-pub record IsForFault (s : Seen) (asked : List (List ℕ)) (report : Report) : Type 0 where
-  pub command : Command
-  pub row : IsRow asked command
+-- a file of the command, whose turn it was, could not be read
+pub record IsForReadFault (command : Command) (before after : StoreMeaning) (report : Report) : Type 0 where
   pub file : List ℕ
-  pub reached : IsReached s command file
-  pub rose : FaultRose s file
+  pub turn : IsTurnOf before command file
+  pub rose : ReadFailed before after file
   pub told : report ≡ report_of (read_fault file)
+  pub left : HoldsTheSame before after
 
--- the cause of a report, by its status
-abbrev pub CausedAs : Status → Seen → List (List ℕ) → Report → Type 0
-CausedAs status.Done s asked report = IsForContent s asked report
-CausedAs status.SomeFalse s asked report = IsForContent s asked report
-CausedAs status.Words s asked report = IsForWords asked report
-CausedAs status.Model s asked report = IsForContent s asked report
-CausedAs status.User s asked report = IsForContent s asked report
-CausedAs status.RunFile s asked report = IsForContent s asked report
-CausedAs status.Absent s asked report = IsForAbsence s asked report
-CausedAs status.ReadFault s asked report = IsForFault s asked report
-CausedAs status.WriteFault s asked report = ⊥
-CausedAs status.NoMemory s asked report = ⊥
+-- a file of the command's output, whose turn it was, could not be written
+pub record IsForWriteFault (command : Command) (before after : StoreMeaning) (report : Report) : Type 0 where
+  pub output : Output
+  pub gives : IsTold before command → Gives before.held command output
+  pub place : ℕ
+  pub file : File
+  pub is_file : slice_get output.files place ≡ Some file
+  pub rose : WriteFailed before after file.name
+  pub told : report ≡ report_of (write_fault file.name)
+  pub left : HasWritten before after output.files place
 
-abbrev pub IsCaused : Seen → List (List ℕ) → Report → Type 0
-IsCaused s asked report = CausedAs report.status s asked report
-
--- what the sink took, and its count of faults, before and after
-pub record Sent : Type 0 where
-  pub written_before : Option (List ℕ)
-  pub written_after : Option (List ℕ)
-  pub faults_before : ℕ
-  pub faults_after : ℕ
-
-abbrev pub sent : {O : Type 0} → (O → Option (List ℕ)) → (O → ℕ) → O → O → Sent
-sent written faults old new = record {
-  written_before = written old;
-  written_after = written new;
-  faults_before = faults old;
-  faults_after = faults new;
-}
-
--- a fault of the sink was counted in this call
-abbrev pub SinkFailed : Sent → Type 0
-SinkFailed out = HasRisen out.faults_before out.faults_after
+-- what is to be printed for a command, by its cause
+abbrev pub IsDue : Command → StoreMeaning → StoreMeaning → Report → Type 0
+IsDue command before after report =
+    IsForOutput command before after report ⊎ IsForAbsence command before after report ⊎
+    IsForReadFault command before after report ⊎ IsForWriteFault command before after report
 
 -- the whole text went out, and the status is the text's
-pub record IsWhole (s : Seen) (asked : List (List ℕ)) (out : Sent) (answer : Status) : Type 0 where
-  pub report : Report
-  pub caused : IsCaused s asked report
-  pub answered : report.status ≡ answer
-  pub went_out : Appends out.written_before out.written_after report.text
+pub record IsPrintedWhole (report : Report) (before after : SinkMeaning) (answer : Status) : Type 0 where
+  pub answered : answer ≡ report.status
+  pub went_out : Appends before.written after.written report.text
 
 -- the sink failed, and a part of the text went out
-pub record IsCutShort (s : Seen) (asked : List (List ℕ)) (out : Sent) : Type 0 where
-  pub report : Report
-  pub caused : IsCaused s asked report
-  pub failed : SinkFailed out
-  pub went_out : SentPart out.written_before out.written_after report.text
-
--- each status has its cause, and tells what went out
-abbrev pub IsAnswer : Seen → List (List ℕ) → Sent → Status → Type 0
-IsAnswer s asked out status.Done = IsWhole s asked out status.Done
-IsAnswer s asked out status.SomeFalse = IsWhole s asked out status.SomeFalse
-IsAnswer s asked out status.Words = IsWhole s asked out status.Words
-IsAnswer s asked out status.Model = IsWhole s asked out status.Model
-IsAnswer s asked out status.User = IsWhole s asked out status.User
-IsAnswer s asked out status.RunFile = IsWhole s asked out status.RunFile
-IsAnswer s asked out status.Absent = IsWhole s asked out status.Absent
-IsAnswer s asked out status.ReadFault = IsWhole s asked out status.ReadFault
-IsAnswer s asked out status.WriteFault = IsCutShort s asked out
-IsAnswer s asked out status.NoMemory = out.written_after ≡ out.written_before
-
--- the statuses of what files hold
-abbrev pub IsOfContent : Status → Type 0
-IsOfContent status.Done = Unit {0}
-IsOfContent status.SomeFalse = Unit {0}
-IsOfContent status.Words = ⊥
-IsOfContent status.Model = Unit {0}
-IsOfContent status.User = Unit {0}
-IsOfContent status.RunFile = Unit {0}
-IsOfContent status.Absent = ⊥
-IsOfContent status.ReadFault = ⊥
-IsOfContent status.WriteFault = ⊥
-IsOfContent status.NoMemory = ⊥
-
--- the output of the command went out, whole, with its status
-pub record IsOutput (held : List ℕ → Option (List ℕ)) (command : Command) (out : Sent) (answer : Status) : Type 0 where
-  pub report : Report
-  pub gives : Gives held command report
-  pub answered : report.status ≡ answer
-  pub went_out : Appends out.written_before out.written_after report.text
-
--- P, or want of memory
-abbrev pub OrNoMemory : Status → Type 0 → Type 0
-OrNoMemory status.Done P = P
-OrNoMemory status.SomeFalse P = P
-OrNoMemory status.Words P = P
-OrNoMemory status.Model P = P
-OrNoMemory status.User P = P
-OrNoMemory status.RunFile P = P
-OrNoMemory status.Absent P = P
-OrNoMemory status.ReadFault P = P
-OrNoMemory status.WriteFault P = P
-OrNoMemory status.NoMemory P = Unit {0}
-
--- the command did what it is for, or memory was wanting
-abbrev pub IsSuccessOrNoMemory : Status → Type 0
-IsSuccessOrNoMemory status.Done = Unit {0}
-IsSuccessOrNoMemory status.SomeFalse = Unit {0}
-IsSuccessOrNoMemory status.Words = ⊥
-IsSuccessOrNoMemory status.Model = ⊥
-IsSuccessOrNoMemory status.User = ⊥
-IsSuccessOrNoMemory status.RunFile = ⊥
-IsSuccessOrNoMemory status.Absent = ⊥
-IsSuccessOrNoMemory status.ReadFault = ⊥
-IsSuccessOrNoMemory status.WriteFault = ⊥
-IsSuccessOrNoMemory status.NoMemory = Unit {0}
-
--- `refused words`, or the sink failed, or memory was wanting
-abbrev pub IsWordsOrNothing : Status → Type 0
-IsWordsOrNothing status.Done = ⊥
-IsWordsOrNothing status.SomeFalse = ⊥
-IsWordsOrNothing status.Words = Unit {0}
-IsWordsOrNothing status.Model = ⊥
-IsWordsOrNothing status.User = ⊥
-IsWordsOrNothing status.RunFile = ⊥
-IsWordsOrNothing status.Absent = ⊥
-IsWordsOrNothing status.ReadFault = ⊥
-IsWordsOrNothing status.WriteFault = Unit {0}
-IsWordsOrNothing status.NoMemory = Unit {0}
-
--- a part of the text is out and the sink has failed
-pub record IsCut (report : Report) (out : Sent) (answer : Status) : Type 0 where
+pub record IsCutShort (report : Report) (before after : SinkMeaning) (answer : Status) : Type 0 where
   pub answered : answer ≡ status.WriteFault
-  pub failed : SinkFailed out
-  pub went_out : SentPart out.written_before out.written_after report.text
+  pub failed : SinkFailed before after
+  pub went_out : SentPart before.written after.written report.text
 
--- the text is out, with its status
-pub record IsOut (report : Report) (out : Sent) (answer : Status) : Type 0 where
-  pub answered : report.status ≡ answer
-  pub went_out : Appends out.written_before out.written_after report.text
+abbrev pub IsPrinted : Report → SinkMeaning → SinkMeaning → Status → Type 0
+IsPrinted report before after answer = IsPrintedWhole report before after answer ⊎ IsCutShort report before after answer
 
-abbrev pub IsPrinted : Report → Sent → Status → Type 0
-IsPrinted report out answer = IsOut report out answer ⊎ IsCut report out answer
+-- what is to be printed was printed
+pub record PrintsDue (command : Command) (before after : Outside) (answer : Status) : Type 0 where
+  pub report : Report
+  pub due : IsDue command before.store after.store report
+  pub printed : IsPrinted report before.sink after.sink answer
+
+-- memory was wanting, and nothing was printed or written
+pub record IsSilent (before after : Outside) (answer : Status) : Type 0 where
+  pub answered : answer ≡ status.NoMemory
+  pub nothing : after.sink.written ≡ before.sink.written
+  pub left : HoldsTheSame before.store after.store
+
+-- memory was wanting behind a first part of the command's output
+pub record IsBrokenOff (command : Command) (before after : Outside) (answer : Status) : Type 0 where
+  pub answered : answer ≡ status.NoMemory
+  pub output : Output
+  pub gives : IsTold before.store command → Gives before.store.held command output
+  pub sent : ℕ
+  pub went_out : Appends before.sink.written after.sink.written (take sent output.report.text)
+  pub done : ℕ
+  pub left : HasWritten before.store after.store output.files done
+
+abbrev pub IsAnswerOf : Command → Outside → Outside → Status → Type 0
+IsAnswerOf command before after answer = PrintsDue command before after answer ⊎ IsSilent before after answer ⊎ IsBrokenOff command before after answer
+
+-- the words are the row of a command, which is answered
+pub record AnswersCommand (asked : List (List ℕ)) (before after : Outside) (answer : Status) : Type 0 where
+  pub command : Command
+  pub row : IsRow asked command
+  pub answers : IsAnswerOf command before after answer
+
+-- the words are refused
+pub record AnswersNoRow (asked : List (List ℕ)) (before after : Outside) (answer : Status) : Type 0 where
+  pub no_row : IsNoRow asked
+  pub prints : IsPrinted (report_of words) before.sink after.sink answer ⊎ IsSilent before after answer
+  pub left : HoldsTheSame before.store after.store
+
+abbrev pub IsAnswer : List (List ℕ) → Outside → Outside → Status → Type 0
+IsAnswer asked before after answer = AnswersCommand asked before after answer ⊎ AnswersNoRow asked before after answer

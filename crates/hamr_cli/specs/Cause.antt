@@ -16,6 +16,7 @@ pub data Cause : Type 0 where
   refused : List ℕ → Refusal → Cause
   absent : List ℕ → Cause
   read_fault : List ℕ → Cause
+  write_fault : List ℕ → Cause
 
 -- the status of a refused text
 abbrev pub status_of_document : Document → Status
@@ -30,12 +31,14 @@ status_of words = status.Words
 status_of (refused file refusal) = status_of_document (document_of refusal.code)
 status_of (absent file) = status.Absent
 status_of (read_fault file) = status.ReadFault
+status_of (write_fault file) = status.WriteFault
 
 abbrev pub line_of : Cause → List ℕ
 line_of words = codes "refused words" ++ 10 ∷ []
 line_of (refused file refusal) = refusal_line file refusal
 line_of (absent file) = codes "refused " ++ file ++ codes " absent" ++ 10 ∷ []
 line_of (read_fault file) = codes "refused " ++ file ++ codes " read" ++ 10 ∷ []
+line_of (write_fault file) = codes "refused " ++ file ++ codes " write" ++ 10 ∷ []
 
 -- what is told of a cause
 abbrev pub report_of : Cause → Report

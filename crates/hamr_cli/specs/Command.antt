@@ -18,11 +18,6 @@ abbrev pub arguments_of : Command → List (List ℕ)
 arguments_of (judge model trace) = model ∷ trace ∷ []
 arguments_of (tidy model) = model ∷ []
 
--- the files that the words name, in the order in which they are read
-abbrev pub files_of : Command → List (List ℕ)
-files_of (judge model trace) = model ∷ trace ∷ []
-files_of (tidy model) = model ∷ []
-
 -- the words are the row of the command, and are text
 pub record IsRow (words : List (List ℕ)) (command : Command) : Type 0 where
   pub row : words ≡ name_of command ∷ arguments_of command

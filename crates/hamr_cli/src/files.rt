@@ -1,9 +1,8 @@
 //! Reading the files that the words name.
 
 ghost use Rattle.std.specs.Prelude.{◌≡◌, List, ℕ, Some, true, IfOk};
-ghost use Rattle.hw_io.specs.Count.{NeverFalls};
-ghost use Rattle.hamr_cli.specs.Outside.{seen};
-ghost use Rattle.hamr_cli.specs.Stop.{OnStopped, IsOutside};
+ghost use Rattle.hamr_cli.specs.Kept.{IsOnlyRead};
+ghost use Rattle.hamr_cli.specs.Stop.{OnStopped, IsUnread};
 
 use crate::Report;
 use crate::cause::{absent_file, unreadable_file};
@@ -32,12 +31,9 @@ impl From<NoMemory> for Stop {
 
 /// The bytes of a file, or what is told where it can't be read.
 pub fn read_file<S: Store>(alloc: Global, store: &mut S, file: &str) -> Result<ByteList, Stop>
-    ensures bytes { IfOk result (λ bytes. S.tells store.old ≡ true → S.held store.old file.now ≡ Some bytes) }
-    ensures stopped { OnStopped result (λ report. IsOutside (seen S.tells S.held S.read_faults S.absences store.old store.new) file.now report) }
-    ensures tells { S.tells store.new ≡ S.tells store.old }
-    ensures kept { (name : List ℕ) → S.held store.new name ≡ S.held store.old name }
-    ensures read_faults { NeverFalls (S.read_faults store.old) (S.read_faults store.new) }
-    ensures absences { NeverFalls (S.absences store.old) (S.absences store.new) }
+    ensures bytes { IfOk result (λ bytes. (S.means store.old).tells ≡ true → (S.means store.old).held file.now ≡ Some bytes) }
+    ensures stopped { OnStopped result (λ report. IsUnread (S.means store.old) (S.means store.new) file.now report) }
+    ensures kept { IsOnlyRead (S.means store.old) (S.means store.new) }
 {
     match store.read(alloc, file) {
         ReadAnswer::Bytes(bytes) => Ok(bytes),

@@ -1,11 +1,10 @@
 //! The command `judge MODEL TRACE`, once the model is read.
 
 ghost use Rattle.std.specs.Prelude.{◌≡◌, List, ℕ, Some, true, IfOk};
-ghost use Rattle.hw_io.specs.Count.{NeverFalls};
 ghost use Rattle.hamr_cli.specs.Judge.{IsJudged, IsJudgedFile, IsJudgedTrace, UnreadAs};
-ghost use Rattle.hamr_cli.specs.Outside.{seen};
 ghost use Rattle.hamr_cli.specs.Package.{IsThin};
-ghost use Rattle.hamr_cli.specs.Stop.{OnStopped, IsOutside};
+ghost use Rattle.hamr_cli.specs.Kept.{IsOnlyRead};
+ghost use Rattle.hamr_cli.specs.Stop.{OnStopped, IsUnread};
 
 use crate::files::{Stop, read_file};
 use crate::judgement::Judgement;
@@ -26,13 +25,10 @@ pub fn judge<S: Store>(
     tree: &Package,
     trace: &str,
 ) -> Result<Judgement, Stop>
-    ensures judged { IfOk result (λ found. S.tells store.old ≡ true → IsJudged (S.held store.old) tree.now trace.now found) }
-    ensures stopped { OnStopped result (λ report. IsOutside (seen S.tells S.held S.read_faults S.absences store.old store.new) trace.now report) }
+    ensures judged { IfOk result (λ found. (S.means store.old).tells ≡ true → IsJudged (S.means store.old).held tree.now trace.now found) }
+    ensures stopped { OnStopped result (λ report. IsUnread (S.means store.old) (S.means store.new) trace.now report) }
     ensures thin { OnStopped result (λ report. IsThin tree.now) }
-    ensures tells { S.tells store.new ≡ S.tells store.old }
-    ensures kept { (name : List ℕ) → S.held store.new name ≡ S.held store.old name }
-    ensures read_faults { NeverFalls (S.read_faults store.old) (S.read_faults store.new) }
-    ensures absences { NeverFalls (S.absences store.old) (S.absences store.new) }
+    ensures kept { IsOnlyRead (S.means store.old) (S.means store.new) }
 {
     match read_package(alloc, tree)? {
         Some(arch) => judge_by(alloc, store, &arch, trace),
@@ -47,12 +43,9 @@ fn judge_by<S: Store>(
     arch: &Arch,
     trace: &str,
 ) -> Result<Judgement, Stop>
-    ensures judged { IfOk result (λ found. S.tells store.old ≡ true → IsJudgedFile (S.held store.old) arch.now trace.now found) }
-    ensures stopped { OnStopped result (λ report. IsOutside (seen S.tells S.held S.read_faults S.absences store.old store.new) trace.now report) }
-    ensures tells { S.tells store.new ≡ S.tells store.old }
-    ensures kept { (name : List ℕ) → S.held store.new name ≡ S.held store.old name }
-    ensures read_faults { NeverFalls (S.read_faults store.old) (S.read_faults store.new) }
-    ensures absences { NeverFalls (S.absences store.old) (S.absences store.new) }
+    ensures judged { IfOk result (λ found. (S.means store.old).tells ≡ true → IsJudgedFile (S.means store.old).held arch.now trace.now found) }
+    ensures stopped { OnStopped result (λ report. IsUnread (S.means store.old) (S.means store.new) trace.now report) }
+    ensures kept { IsOnlyRead (S.means store.old) (S.means store.new) }
 {
     let bytes = read_file(alloc, store, trace)?;
     Ok(judge_trace(alloc, arch, bytes.rows())?)

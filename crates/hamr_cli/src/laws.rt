@@ -3,7 +3,7 @@
 ghost use Rattle.std.specs.Prelude.{IsPermutation};
 ghost use Rattle.arch_model.specs.Arch.{IsWellFormed};
 ghost use Rattle.hamr_cli.specs.declared.thin.model.ThinModel.{ThinModel};
-ghost use Rattle.hamr_cli.specs.Answer.{OutputIsOne, TidiedStays};
+ghost use Rattle.hamr_cli.specs.Output.{OutputIsOne, TidiedStays};
 ghost use Rattle.hamr_cli.specs.Instance.{links_named, instance_of};
 ghost use Rattle.hamr_cli.specs.Model.{IsThinModel};
 

@@ -1,6 +1,7 @@
 //! The top call of `hamr`: what the words ask for, done over any store and any sink.
 #![tactic(auto)]
 
+mod arguments;
 mod cause;
 mod command;
 mod domains;
@@ -11,6 +12,7 @@ mod laws;
 mod model_file;
 mod outputs;
 mod package;
+mod printing;
 mod report;
 mod status;
 mod thin;
@@ -21,5 +23,6 @@ mod verdict;
 
 use report::Report;
 
+pub use arguments::answer;
 pub use status::Status;
 pub use top::hamr;

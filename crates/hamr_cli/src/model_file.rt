@@ -1,10 +1,9 @@
 //! Reading the file of a model.
 
 ghost use Rattle.std.specs.Prelude.{◌≡◌, List, ℕ, Some, true, IfOk};
-ghost use Rattle.hw_io.specs.Count.{NeverFalls};
 ghost use Rattle.hamr_cli.specs.ModelFile.{IsModelText, FileIs, ParsedAs};
-ghost use Rattle.hamr_cli.specs.Outside.{seen};
-ghost use Rattle.hamr_cli.specs.Stop.{OnStopped, IsOutside};
+ghost use Rattle.hamr_cli.specs.Kept.{IsOnlyRead};
+ghost use Rattle.hamr_cli.specs.Stop.{OnStopped, IsUnread};
 
 use crate::files::{Stop, read_file};
 use aadl_parse::parse;
@@ -22,12 +21,9 @@ pub enum ModelText {
 
 /// What the text in a file is.
 pub fn read_model<S: Store>(alloc: Global, store: &mut S, model: &str) -> Result<ModelText, Stop>
-    ensures text { IfOk result (λ text. S.tells store.old ≡ true → FileIs (S.held store.old) model.now text) }
-    ensures stopped { OnStopped result (λ report. IsOutside (seen S.tells S.held S.read_faults S.absences store.old store.new) model.now report) }
-    ensures tells { S.tells store.new ≡ S.tells store.old }
-    ensures kept { (name : List ℕ) → S.held store.new name ≡ S.held store.old name }
-    ensures read_faults { NeverFalls (S.read_faults store.old) (S.read_faults store.new) }
-    ensures absences { NeverFalls (S.absences store.old) (S.absences store.new) }
+    ensures text { IfOk result (λ text. (S.means store.old).tells ≡ true → FileIs (S.means store.old).held model.now text) }
+    ensures stopped { OnStopped result (λ report. IsUnread (S.means store.old) (S.means store.new) model.now report) }
+    ensures kept { IsOnlyRead (S.means store.old) (S.means store.new) }
 {
     let bytes = read_file(alloc, store, model)?;
     Ok(model_text(alloc, bytes.rows())?)

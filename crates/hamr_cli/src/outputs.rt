@@ -1,17 +1,17 @@
 //! What the commands print, from the files that the words name.
 
-ghost use Rattle.std.specs.Prelude.{◌≡◌, List, ℕ, true, IfOk};
-ghost use Rattle.hamr_cli.specs.Answer.{IsOfContent};
+ghost use Rattle.std.specs.Prelude.{◌≡◌, true, IfOk};
+ghost use Rattle.hamr_cli.specs.Answer.{IsDue};
+ghost use Rattle.hamr_cli.specs.Cause.{report_of, words};
 ghost use Rattle.hamr_cli.specs.Command.{judge as asked_judge, tidy as asked_tidy};
 ghost use Rattle.hamr_cli.specs.Judge.{JudgeTells};
-ghost use Rattle.hamr_cli.specs.ModelFile.{OnModel};
-ghost use Rattle.hamr_cli.specs.Outside.{seen};
+ghost use Rattle.hamr_cli.specs.Kept.{HoldsTheSame};
 ghost use Rattle.hamr_cli.specs.Package.{IsThin};
-ghost use Rattle.hamr_cli.specs.Stop.{OnStopped, IsOutside, IsStopped};
-ghost use Rattle.hamr_cli.specs.Tidy.{IsTidied};
+ghost use Rattle.hamr_cli.specs.Status.{IsOfContent};
+ghost use Rattle.hamr_cli.specs.Stop.{OnStopped, OnTold, IsUnread};
 
 use crate::Report;
-use crate::cause::refused_text;
+use crate::cause::{refused_text, refused_words};
 use crate::files::Stop;
 use crate::judge::judge;
 use crate::model_file::{ModelText, read_model};
@@ -20,6 +20,13 @@ use aadl_tree::Package;
 use hw_io::Store;
 use std::alloc::Global;
 
+/// Of words that are no row of the table of commands.
+pub fn run_no_row(alloc: Global) -> Result<Report, Stop>
+    ensures { OnTold result (λ report. report ≡ report_of words) }
+{
+    Ok(refused_words(alloc)?)
+}
+
 /// `judge MODEL TRACE`. The trace is read only once the model is.
 pub fn run_judge<S: Store>(
     alloc: Global,
@@ -27,11 +34,8 @@ pub fn run_judge<S: Store>(
     model: &str,
     trace: &str,
 ) -> Result<Report, Stop>
-    ensures content { IfOk result (λ report. IsOfContent report.status) }
-    ensures given { IfOk result (λ report. S.tells store.old ≡ true →
-        OnModel (S.held store.old) model.now (JudgeTells (S.held store.old) model.now trace.now) report) }
-    ensures stopped { OnStopped result (λ report. IsStopped (seen S.tells S.held S.read_faults S.absences store.old store.new) (asked_judge model.now trace.now) report) }
-    ensures kept { (name : List ℕ) → S.held store.new name ≡ S.held store.old name }
+    ensures due { OnTold result (λ report. IsDue (asked_judge model.now trace.now) (S.means store.old) (S.means store.new) report) }
+    ensures kept { HoldsTheSame (S.means store.old) (S.means store.new) }
 {
     match read_model(alloc, store, model)? {
         ModelText::Package(tree) => judge_model(alloc, store, &tree, model, trace),
@@ -48,10 +52,10 @@ fn judge_model<S: Store>(
     trace: &str,
 ) -> Result<Report, Stop>
     ensures content { IfOk result (λ report. IsOfContent report.status) }
-    ensures given { IfOk result (λ report. S.tells store.old ≡ true → JudgeTells (S.held store.old) model.now trace.now tree.now report) }
-    ensures stopped { OnStopped result (λ report. IsOutside (seen S.tells S.held S.read_faults S.absences store.old store.new) trace.now report) }
+    ensures given { IfOk result (λ report. (S.means store.old).tells ≡ true → JudgeTells (S.means store.old).held model.now trace.now tree.now report) }
+    ensures stopped { OnStopped result (λ report. IsUnread (S.means store.old) (S.means store.new) trace.now report) }
     ensures thin { OnStopped result (λ report. IsThin tree.now) }
-    ensures kept { (name : List ℕ) → S.held store.new name ≡ S.held store.old name }
+    ensures kept { HoldsTheSame (S.means store.old) (S.means store.new) }
 {
     let found = judge(alloc, store, tree, trace)?;
     Ok(found.report(alloc, model, trace)?)
@@ -59,10 +63,8 @@ fn judge_model<S: Store>(
 
 /// `tidy MODEL`.
 pub fn run_tidy<S: Store>(alloc: Global, store: &mut S, model: &str) -> Result<Report, Stop>
-    ensures content { IfOk result (λ report. IsOfContent report.status) }
-    ensures given { IfOk result (λ report. S.tells store.old ≡ true → OnModel (S.held store.old) model.now IsTidied report) }
-    ensures stopped { OnStopped result (λ report. IsStopped (seen S.tells S.held S.read_faults S.absences store.old store.new) (asked_tidy model.now) report) }
-    ensures kept { (name : List ℕ) → S.held store.new name ≡ S.held store.old name }
+    ensures due { OnTold result (λ report. IsDue (asked_tidy model.now) (S.means store.old) (S.means store.new) report) }
+    ensures kept { HoldsTheSame (S.means store.old) (S.means store.new) }
 {
     match read_model(alloc, store, model)? {
         ModelText::Package(tree) => Ok(tidy(alloc, &tree)?),

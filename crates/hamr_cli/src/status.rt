@@ -1,6 +1,9 @@
 //! How a call of the program ends.
 
-/// The exit statuses. The number of each is its place here, from 0 (this project's own; README).
+ghost use Rattle.std.specs.Prelude.{◌≡◌};
+ghost use Rattle.hamr_cli.specs.Status.{number_of};
+
+/// The exit statuses (this project's own; README).
 #[derive(Clone, Copy, Debug, PartialEq, Eq)]
 pub enum Status {
     /// The command's text was printed, and nothing in it is false.
@@ -23,4 +26,24 @@ pub enum Status {
     WriteFault,
     /// There was no memory.
     NoMemory,
+}
+
+impl Status {
+    /// The number that the program exits with, from 0 to 9 in the order of the table.
+    pub fn number(self) -> u8
+        ensures { result ≡ number_of self }
+    {
+        match self {
+            Status::Done => 0,
+            Status::SomeFalse => 1,
+            Status::Words => 2,
+            Status::Model => 3,
+            Status::User => 4,
+            Status::RunFile => 5,
+            Status::Absent => 6,
+            Status::ReadFault => 7,
+            Status::WriteFault => 8,
+            Status::NoMemory => 9,
+        }
+    }
 }

@@ -1,99 +1,77 @@
 //! The top call.
 
-ghost use Rattle.std.specs.Prelude.{◌≡◌, List, ℕ, true, IfOk};
-ghost use Rattle.hamr_cli.specs.Answer.{Gives, IsOfContent, IsCaused, IsAnswer, IsOutput, IsPrinted, SinkFailed, OrNoMemory, Accepts, IsSuccessOrNoMemory, IsWordsOrNothing, sent};
+ghost use Rattle.hamr_cli.specs.Answer.{IsAnswer, IsAnswerOf};
 ghost use Rattle.hamr_cli.specs.Asked.{asked};
 ghost use Rattle.hamr_cli.specs.Command.{Command as Asked, IsRow, IsNoRow};
-ghost use Rattle.hamr_cli.specs.Outside.{seen, Serves};
-ghost use Rattle.hamr_cli.specs.Stop.{OnStopped, IsStopped};
+ghost use Rattle.hamr_cli.specs.Complete.{Serves, IsDoneOrNoMemory};
+ghost use Rattle.hamr_cli.specs.Kept.{HoldsTheSame};
+ghost use Rattle.hamr_cli.specs.Outside.{outside};
+ghost use Rattle.hamr_cli.specs.Status.{IsRefusal, IsWordsOrNothing};
 
-use crate::cause::refused_words;
+use crate::Status;
 use crate::command::Command;
-use crate::files::Stop;
-use crate::outputs::{run_judge, run_tidy};
-use crate::{Report, Status};
-use hw_io::{Sink, Store, WriteFault, write_all};
-use hw_text::{NoMemory, WordList};
+use crate::outputs::{run_judge, run_tidy, run_no_row};
+use crate::printing::print_told;
+use hw_io::{Sink, Store};
+use hw_text::WordList;
 use std::alloc::Global;
 
-/// Does what the words ask for: reads the files that they name, prints one text, and answers the
-/// status of that text. The words are those behind the program's name.
+/// Does what the words ask for: reads the files that they name, writes files where the command does,
+/// prints one text, and answers the status of that text. The words are those behind the program's name.
 pub fn hamr<S: Store, O: Sink>(
     alloc: Global,
     words: &WordList,
     store: &mut S,
     out: &mut O,
 ) -> Status
-    // Each status has its cause, and what went out is told.
-    ensures answer { IsAnswer (seen S.tells S.held S.read_faults S.absences store.old store.new) words.now
-        (sent O.written O.faults out.old out.new) result }
+    // What is printed and written has its cause, and so has the status.
+    ensures answer { IsAnswer words.now
+        (outside (S.means store.old) (O.means out.old)) (outside (S.means store.new) (O.means out.new)) result }
 
-    // Where the files are held and no fault is counted, the output of the command goes out whole, or memory is wanting.
+    // Where nothing outside fails, the output of the command goes out whole, or memory is wanting.
     ensures complete { (command : Asked) → IsRow words.now command →
-        Serves (seen S.tells S.held S.read_faults S.absences store.old store.new) command →
-        (SinkFailed (sent O.written O.faults out.old out.new) → ⊥) →
-        OrNoMemory result (IsOutput (S.held store.old) command (sent O.written O.faults out.old out.new) result) }
-
-    // Where the files are accepted as well, that output is what the command is for.
-    ensures accepted { (command : Asked) → IsRow words.now command →
-        Serves (seen S.tells S.held S.read_faults S.absences store.old store.new) command →
-        (SinkFailed (sent O.written O.faults out.old out.new) → ⊥) →
-        Accepts (S.held store.old) command → IsSuccessOrNoMemory result }
+        Serves (outside (S.means store.old) (O.means out.old)) (outside (S.means store.new) (O.means out.new)) command →
+        IsDoneOrNoMemory (outside (S.means store.old) (O.means out.old)) (outside (S.means store.new) (O.means out.new)) command result }
 
     // Words that are no row are refused as words.
     ensures no_row { IsNoRow words.now → IsWordsOrNothing result }
 
-    // No command so far writes a file.
-    ensures kept { (name : List ℕ) → S.held store.new name ≡ S.held store.old name }
+    // Where something is refused, no file is written.
+    ensures kept { IsRefusal result → HoldsTheSame (S.means store.old) (S.means store.new) }
 {
     perform(alloc, words, store, out)
 }
 
 fn perform<S: Store, O: Sink>(alloc: Global, words: &WordList, store: &mut S, out: &mut O) -> Status
-    ensures answer { IsAnswer (seen S.tells S.held S.read_faults S.absences store.old store.new) words.now
-        (sent O.written O.faults out.old out.new) result }
-    ensures kept { (name : List ℕ) → S.held store.new name ≡ S.held store.old name }
+    ensures answer { IsAnswer words.now
+        (outside (S.means store.old) (O.means out.old)) (outside (S.means store.new) (O.means out.new)) result }
+    ensures kept { IsRefusal result → HoldsTheSame (S.means store.old) (S.means store.new) }
 {
-    match report(alloc, words, store) {
-        Ok(report) => print(out, &report),
-        Err(NoMemory) => Status::NoMemory,
+    match Command::read(words.rows()) {
+        Some(command) => run(alloc, command, store, out),
+        None => print_told(out, run_no_row(alloc)),
     }
 }
 
-/// Prints the whole text, or as much of it as the sink takes.
-fn print<O: Sink>(out: &mut O, report: &Report) -> Status
-    ensures { IsPrinted report.now (sent O.written O.faults out.old out.new) result }
-{
-    match write_all(out, report.text.rows()) {
-        Ok(()) => report.status,
-        Err(WriteFault::Sink) => Status::WriteFault,
-    }
-}
-
-/// What is to be printed for the words.
-fn report<S: Store>(alloc: Global, words: &WordList, store: &mut S) -> Result<Report, NoMemory>
-    ensures caused { IfOk result (λ report. IsCaused (seen S.tells S.held S.read_faults S.absences store.old store.new) words.now report) }
-    ensures kept { (name : List ℕ) → S.held store.new name ≡ S.held store.old name }
-{
-    let Some(command) = Command::read(words.rows()) else {
-        return refused_words(alloc);
-    };
-    match run(alloc, command, store) {
-        Ok(report) => Ok(report),
-        Err(Stop::Told(report)) => Ok(report),
-        Err(Stop::NoMemory) => Err(NoMemory),
-    }
-}
-
-/// The output of a command.
-fn run<S: Store>(alloc: Global, command: Command<'_>, store: &mut S) -> Result<Report, Stop>
-    ensures content { IfOk result (λ report. IsOfContent report.status) }
-    ensures given { IfOk result (λ report. S.tells store.old ≡ true → Gives (S.held store.old) (asked command.entry) report) }
-    ensures stopped { OnStopped result (λ report. IsStopped (seen S.tells S.held S.read_faults S.absences store.old store.new) (asked command.entry) report) }
-    ensures kept { (name : List ℕ) → S.held store.new name ≡ S.held store.old name }
+/// Does what the command asks for.
+fn run<S: Store, O: Sink>(
+    alloc: Global,
+    command: Command<'_>,
+    store: &mut S,
+    out: &mut O,
+) -> Status
+    ensures answer { IsAnswerOf (asked command.entry)
+        (outside (S.means store.old) (O.means out.old)) (outside (S.means store.new) (O.means out.new)) result }
+    ensures kept { IsRefusal result → HoldsTheSame (S.means store.old) (S.means store.new) }
 {
     match command {
-        Command::Judge { model, trace } => run_judge(alloc, store, model, trace),
-        Command::Tidy { model } => run_tidy(alloc, store, model),
+        Command::Judge { model, trace } => {
+            let told = run_judge(alloc, store, model, trace);
+            print_told(out, told)
+        }
+        Command::Tidy { model } => {
+            let told = run_tidy(alloc, store, model);
+            print_told(out, told)
+        }
     }
 }

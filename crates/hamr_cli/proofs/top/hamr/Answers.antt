@@ -1,19 +1,17 @@
-use Rattle.hamr_cli.specs.Answer.{sent}
-use Rattle.hamr_cli.specs.Outside.{seen}
-use Rattle.hamr_cli.proofs.Served.{answer_complete, success}
+use Rattle.hamr_cli.specs.Outside.{outside}
+use Rattle.hamr_cli.proofs.Served.{answer_done, answer_no_row}
 use Rattle.hamr_cli.proofs.top.hamr.Goals as goal
 
 pub returns-clause-complete : goal.returns-clause-complete
-returns-clause-complete g c = λ command row serves working.
-    answer_complete c.perform.result
-    (seen g.S.Store.tells g.S.Store.held g.S.Store.read_faults g.S.Store.absences c.args.store.now c.perform.new.store) c.args.words.now
-    (sent g.O.Sink.written g.O.Sink.faults c.args.out.now c.perform.new.out) command c.perform.ensures.answer row serves working
+returns-clause-complete g c = λ command row serves.
+    answer_done c.args.words.now command
+    (outside (g.S.Store.means c.args.store.now) (g.O.Sink.means c.args.out.now))
+    (outside (g.S.Store.means c.perform.new.store) (g.O.Sink.means c.perform.new.out))
+    c.perform.result c.perform.ensures.answer row serves
 
-pub returns-clause-accepted : goal.returns-clause-accepted
-returns-clause-accepted g c = λ command row serves working files.
-    success c.perform.result (g.S.Store.held c.args.store.now) command
-    (sent g.O.Sink.written g.O.Sink.faults c.args.out.now c.perform.new.out)
-    (answer_complete c.perform.result
-    (seen g.S.Store.tells g.S.Store.held g.S.Store.read_faults g.S.Store.absences c.args.store.now c.perform.new.store) c.args.words.now
-    (sent g.O.Sink.written g.O.Sink.faults c.args.out.now c.perform.new.out) command c.perform.ensures.answer row serves working)
-    files
+pub returns-clause-no_row : goal.returns-clause-no_row
+returns-clause-no_row g c = λ none.
+    answer_no_row c.args.words.now
+    (outside (g.S.Store.means c.args.store.now) (g.O.Sink.means c.args.out.now))
+    (outside (g.S.Store.means c.perform.new.store) (g.O.Sink.means c.perform.new.out))
+    c.perform.result c.perform.ensures.answer none

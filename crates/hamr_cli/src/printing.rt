@@ -1,0 +1,30 @@
+//! Printing what is told, once the whole text stands.
+
+ghost use Rattle.std.specs.Prelude.{◌≡◌};
+ghost use Rattle.hamr_cli.specs.Answer.{IsPrinted};
+ghost use Rattle.hamr_cli.specs.Stop.{IsToldAs};
+
+use crate::files::Stop;
+use crate::{Report, Status};
+use hw_io::{Sink, WriteFault, write_all};
+
+/// Prints what a command told, or what is told in its place.
+pub fn print_told<O: Sink>(out: &mut O, told: Result<Report, Stop>) -> Status
+    ensures { IsToldAs told (O.means out.old) (O.means out.new) result }
+{
+    match told {
+        Ok(report) => print(out, &report),
+        Err(Stop::Told(report)) => print(out, &report),
+        Err(Stop::NoMemory) => Status::NoMemory,
+    }
+}
+
+/// Prints the whole text, or as much of it as the sink takes.
+fn print<O: Sink>(out: &mut O, report: &Report) -> Status
+    ensures { IsPrinted report.now (O.means out.old) (O.means out.new) result }
+{
+    match write_all(out, report.text.rows()) {
+        Ok(()) => report.status,
+        Err(WriteFault::Sink) => Status::WriteFault,
+    }
+}
