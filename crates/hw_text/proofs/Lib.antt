@@ -1,3 +1,4 @@
+pub mod BaseNames
 pub mod FirstFailures
 pub mod NameLemmas
 pub mod OneTokens

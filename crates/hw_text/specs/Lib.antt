@@ -1,3 +1,4 @@
+pub mod BaseTypes
 pub mod Code
 pub mod Language
 pub mod Name

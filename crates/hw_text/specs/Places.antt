@@ -1,6 +1,10 @@
 -- Places in a text: lines count by LF and columns by bytes, both from 1, and stay at the largest u32 (this project's own).
-use Rattle.std.specs.Prelude.{ℕ, ◌+◌, ◌-◌, ◌==◌, nat_lt, if◌then◌else◌, List, [], ◌∷◌, length, take}
+use Rattle.std.specs.Prelude.{◌≡◌, ◌<◌, ◌⊎◌, ℕ, ◌+◌, ◌-◌, ◌==◌, nat_lt, if◌then◌else◌, List, [], ◌∷◌, length, take}
 use Rattle.hw_text.specs.declared.place.Place.{Place}
+
+-- in an earlier line, or earlier in the same line
+abbrev pub IsBefore : Place → Place → Type 0
+IsBefore at other = (at.line < other.line) ⊎ ((at.line ≡ other.line) × (at.column < other.column))
 
 -- one more, but at most the largest u32
 abbrev pub counted : ℕ → ℕ

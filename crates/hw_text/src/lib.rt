@@ -2,6 +2,7 @@
 //! words in which every other crate speaks.
 #![tactic(auto)]
 
+mod base_type;
 mod blank;
 mod boxed;
 mod byte_list;
@@ -24,6 +25,7 @@ mod text_buf;
 mod whole;
 mod word_list;
 
+pub use base_type::BaseType;
 pub use blank::{is_white, skipped};
 pub use boxed::Boxed;
 pub use byte_list::ByteList;

@@ -1,7 +1,7 @@
 //! Places in a text.
 
-ghost use Rattle.std.specs.Prelude.{◌≡◌, ◌≤◌, length};
-ghost use Rattle.hw_text.specs.Places.{counted, next_place, place_behind, place_of_rest};
+ghost use Rattle.std.specs.Prelude.{◌≡◌, ◌↔◌, ◌≤◌, length, IsTrue};
+ghost use Rattle.hw_text.specs.Places.{IsBefore, counted, next_place, place_behind, place_of_rest};
 
 /// Where a byte stands: lines count by LF and columns by bytes, both from 1. A count that would
 /// pass the largest `u32` stays there. 0:0 stands for no place.
@@ -17,6 +17,13 @@ impl Place {
 
     /// What a refusal without a place holds.
     pub const NONE: Place = Place { line: 0, column: 0 };
+
+    /// Whether this place comes before the other: places are ordered by line, then by column.
+    pub fn is_before(self, other: Place) -> bool
+        ensures { IsTrue result ↔ IsBefore self other }
+    {
+        self.line < other.line || (self.line == other.line && self.column < other.column)
+    }
 }
 
 /// The place of the rest of a text that stands at a place.

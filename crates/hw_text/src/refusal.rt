@@ -1,6 +1,6 @@
 //! A refusal, and the line that tells it.
 
-ghost use Rattle.std.specs.Prelude.{◌≡◌, ◌++◌, [], pos, IfOk, OnOk};
+ghost use Rattle.std.specs.Prelude.{◌≡◌, ◌∷◌, ◌++◌, List, ℕ, [], codes, pos, IfOk, OnOk};
 ghost use Rattle.hw_text.specs.Refusal.{refusal_line, place_text, detail_text, spaced_word, spaced_number};
 
 use crate::{Code, Detail, Document, NoMemory, Place, TextBuf};
@@ -23,17 +23,37 @@ impl Refusal {
     /// The refusal of a model that this version does not read.
     pub fn not_built(alloc: Global) -> Self
         ensures code { result.code ≡ Code.ModelNotBuilt }
-        ensures place { result.place ≡ Place.START }
+        ensures place { result.place ≡ record { line = 1; column = 1 } }
         ensures word { result.word ≡ [] }
         ensures low { result.low ≡ pos 0 }
         ensures high { result.high ≡ pos 0 }
         ensures length { result.length ≡ pos 0 }
+        ensures line { (file : List ℕ) → refusal_line file result ≡ codes "refused " ++ file ++ codes " 1:1 NotBuilt" ++ 10 ∷ [] }
     {
         Refusal {
             code: Code::ModelNotBuilt,
             place: Place::START,
             word: TextBuf::new(alloc),
             low: 0,
+            high: 0,
+            length: 0,
+        }
+    }
+
+    /// The refusal of a line of a trace, or of a record of a run file, by its number. It has no place.
+    pub fn numbered(alloc: Global, code: Code, number: u64) -> Self
+        ensures code { result.code ≡ code }
+        ensures place { result.place ≡ record { line = 0; column = 0 } }
+        ensures word { result.word ≡ [] }
+        ensures low { result.low ≡ pos number }
+        ensures high { result.high ≡ pos 0 }
+        ensures length { result.length ≡ pos 0 }
+    {
+        Refusal {
+            code,
+            place: Place::NONE,
+            word: TextBuf::new(alloc),
+            low: i128::from(number),
             high: 0,
             length: 0,
         }
