@@ -1,12 +1,11 @@
 //! What the judge finds.
 
 ghost use Rattle.std.specs.Prelude.{◌≡◌, IfOk};
-ghost use Rattle.hamr_cli.specs.Cause.{bad_line as bad_line_of};
 ghost use Rattle.hamr_cli.specs.Judge.{legal_report, illegal_report};
 
 use crate::cause::refused_text;
 use crate::{Report, Status};
-use hw_text::{Code, NoMemory, Place, Refusal, TextBuf};
+use hw_text::{Code, NoMemory, Refusal, TextBuf};
 use rts_rules::Rule;
 use std::alloc::Global;
 
@@ -32,24 +31,14 @@ impl Judgement {
     {
         match self {
             Judgement::NotBuilt => refused_text(alloc, model, &Refusal::not_built(alloc)),
-            Judgement::BadLine(number) => refused_text(alloc, trace, &bad_line(alloc, number)),
+            Judgement::BadLine(number) => refused_text(
+                alloc,
+                trace,
+                &Refusal::numbered(alloc, Code::TraceBadLine, number),
+            ),
             Judgement::Legal => legal(alloc),
             Judgement::Illegal(number, rule) => illegal(alloc, number, rule),
         }
-    }
-}
-
-/// The refusal of a line of a trace.
-fn bad_line(alloc: Global, number: u64) -> Refusal
-    ensures { result ≡ bad_line_of number }
-{
-    Refusal {
-        code: Code::TraceBadLine,
-        place: Place::NONE,
-        word: TextBuf::new(alloc),
-        low: i128::from(number),
-        high: 0,
-        length: 0,
     }
 }
 
