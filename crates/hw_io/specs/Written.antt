@@ -10,3 +10,8 @@ pub record SentPart (old new : Option (List ℕ)) (bytes : List ℕ) : Type 0 wh
   pub sent : ℕ
   pub below : sent < length bytes
   pub written : Appends old new (take sent bytes)
+
+-- a sink over a writer: what the writer holds, where that is told, and how often writes have failed
+pub record Output : Type 0 where
+  pub written : Option (List ℕ)
+  pub faults : ℕ
