@@ -1,5 +1,8 @@
 pub mod Answer
 pub mod Count
+pub mod Counts
+pub mod FileFault
+pub mod FileReading
 pub mod Meaning
 pub mod MemSink
 pub mod MemStore

@@ -1,12 +1,18 @@
 //! Files of the file system as a store.
 
-ghost use Rattle.std.specs.Prelude.{◌≡◌, List, ℕ, false, None};
+ghost use Rattle.std.specs.Prelude.{◌≡◌, ◌≤◌, false, None, OnErr};
+ghost use Rattle.std.specs.Io.KnownBytes.{Appends};
+ghost use Rattle.hw_io.specs.Answer.{OnDone};
+ghost use Rattle.hw_io.specs.Counts.{no_counts, counts_after_read, counts_after_write};
+ghost use Rattle.hw_io.specs.declared.answers.WriteAnswer.TheVariants.{Failed as write_failed};
 
-use crate::reading::{FileFault, read_whole};
+use crate::counts::Counts;
+use crate::file_fault::answer_of;
+use crate::reading::read_opened;
 use crate::{ReadAnswer, Store, WriteAnswer};
-use hw_text::ByteList;
 use std::alloc::Global;
-use std::io::{ErrorKind, Write};
+use std::io::Write;
+use std::marker::Model;
 use std::path::Path;
 use std::rt::Files;
 use std::{fs, io};
@@ -16,23 +22,29 @@ use std::{fs, io};
 #[derive(Drop)]
 pub struct DirStore<'a, R: Files> {
     files: &'a R,
-    read_faults: u64,
-    write_faults: u64,
-    absences: u64,
+    counts: Counts,
+}
+
+impl<'a, R: Files> Model for DirStore<'a, R> {
+    ghost use Rattle.hw_io.specs.declared.counts.Counts.{Counts};
+
+    ghost Value = { Counts };
+
+    ghost view = { λ s. s.counts };
 }
 
 impl<'a, R: Files> DirStore<'a, R> {
     /// The files of a runtime, with no fault counted.
     pub fn new(files: &'a R) -> Self
-        ensures read_faults { (name : List ℕ) → (⟦<DirStore<'a, R> as Store>⟧.means result).read_faults name ≡ 0 }
-        ensures write_faults { (name : List ℕ) → (⟦<DirStore<'a, R> as Store>⟧.means result).write_faults name ≡ 0 }
-        ensures absences { (name : List ℕ) → (⟦<DirStore<'a, R> as Store>⟧.means result).absences name ≡ 0 }
+        ensures { result ≡ no_counts }
     {
         DirStore {
             files,
-            read_faults: 0,
-            write_faults: 0,
-            absences: 0,
+            counts: Counts {
+                read_faults: 0,
+                write_faults: 0,
+                absences: 0,
+            },
         }
     }
 }
@@ -46,45 +58,53 @@ impl<'a, R: Files> Store for DirStore<'a, R> {
       absences = λ _. s.absences;
     } };
 
-    fn read(&mut self, alloc: Global, name: &str) -> ReadAnswer {
-        match read_file(alloc, self.files, name) {
-            Ok(bytes) => ReadAnswer::Bytes(bytes),
-            Err(FileFault::Absent) => {
-                self.absences = self.absences.saturating_add(1);
-                ReadAnswer::Absent
-            }
-            Err(FileFault::Failed) => {
-                self.read_faults = self.read_faults.saturating_add(1);
-                ReadAnswer::Failed
-            }
-            Err(FileFault::NoMemory) => ReadAnswer::NoMemory,
-        }
+    fn read(&mut self, alloc: Global, name: &str) -> ReadAnswer
+        ensures counts { self.new ≡ counts_after_read self.old result }
+        ensures read_faults { self.old.read_faults ≤ self.new.read_faults }
+        ensures absences { self.old.absences ≤ self.new.absences }
+    {
+        let answer = answer_of(read_opened(alloc, fs::open(self.files, name)));
+        self.counts = self.counts.after_read(&answer);
+        answer
     }
 
-    fn write(&mut self, _alloc: Global, name: &str, bytes: &[u8]) -> WriteAnswer {
-        match write_file(self.files, name, bytes) {
-            Ok(()) => WriteAnswer::Done,
-            Err(_) => {
-                self.write_faults = self.write_faults.saturating_add(1);
-                WriteAnswer::Failed
-            }
-        }
+    fn write(&mut self, _alloc: Global, name: &str, bytes: &[u8]) -> WriteAnswer
+        ensures counts { self.new ≡ counts_after_write self.old result }
+        ensures write_faults { self.old.write_faults ≤ self.new.write_faults }
+    {
+        let answer = match make_folders(self.files, name) {
+            Ok(()) => write_created(fs::create(self.files, name), bytes),
+            Err(_) => WriteAnswer::Failed,
+        };
+        self.counts = self.counts.after_write(answer);
+        answer
     }
 }
 
-// The bytes of a file.
-fn read_file<R: Files>(alloc: Global, files: &R, name: &str) -> Result<ByteList, FileFault> {
-    match fs::open(files, name) {
-        Ok(mut file) => read_whole(alloc, &mut file),
-        Err(error) if error.kind() == ErrorKind::NotFound => Err(FileFault::Absent),
-        Err(_) => Err(FileFault::Failed),
+/// Makes the missing folders of a name.
+fn make_folders<R: Files>(files: &R, name: &str) -> io::Result<()> {
+    match Path::new(name).parent() {
+        Some(folder) => fs::create_dir_all(files, folder),
+        None => Ok(()),
     }
 }
 
-// Makes the missing folders of a name, and then its file.
-fn write_file<R: Files>(files: &R, name: &str, bytes: &[u8]) -> io::Result<()> {
-    if let Some(folder) = Path::new(name).parent() {
-        fs::create_dir_all(files, folder)?;
+/// Writes a file, as the attempt to make it came out.
+fn write_created<W: Write + Drop>(created: io::Result<W>, bytes: &[u8]) -> WriteAnswer
+    ensures { OnErr created (result ≡ write_failed) }
+{
+    match created {
+        Ok(mut file) => write_whole(&mut file, bytes),
+        Err(_) => WriteAnswer::Failed,
     }
-    fs::write(files, name, bytes)
+}
+
+/// Writes all of these bytes. An interrupted write is tried again.
+fn write_whole<W: Write>(out: &mut W, bytes: &[u8]) -> WriteAnswer
+    ensures { OnDone result (Appends (W.contents out.old) (W.contents out.new) bytes.now) }
+{
+    match out.write_all(bytes) {
+        Ok(()) => WriteAnswer::Done,
+        Err(_) => WriteAnswer::Failed,
+    }
 }

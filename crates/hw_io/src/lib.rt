@@ -3,8 +3,10 @@
 #![tactic(auto)]
 
 mod answers;
+mod counts;
 mod dir_store;
 mod faults;
+mod file_fault;
 mod mem_file;
 mod mem_sink;
 mod mem_store;
