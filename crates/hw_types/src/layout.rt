@@ -116,12 +116,12 @@ impl Layout {
     }
 
     /// The layout of an array of so many elements of this one.
-    pub(crate) fn repeated(self, alloc: Global, times: u32) -> Result<Layout, NoMemory>
-        requires { times * self.size < 2 ^ 32 }
-        ensures { IfOk result (λ layout. layout ≡ array_of self times) }
+    pub(crate) fn repeated(&self, alloc: Global, times: u32) -> Result<Layout, NoMemory>
+        requires { times * self.now.size < 2 ^ 32 }
+        ensures { IfOk result (λ layout. layout ≡ array_of self.now times) }
     {
         if self.size() == 0 {
-            return Ok(self);
+            return Ok(self.copy()?);
         }
         let mut scalars = FieldCellList::new(alloc);
         for index in 0..times {

@@ -3,6 +3,7 @@
 
 mod bytes;
 mod count;
+mod extent;
 mod fault;
 mod field_cell;
 mod laws;
@@ -15,10 +16,12 @@ mod ty;
 mod value;
 
 pub use bytes::{bytes_of, value_of};
+pub use extent::{Extent, Width};
 pub use fault::TypeFault;
 pub use field_cell::{FieldCell, FieldCellList};
 pub use laws::{aligned_least, all_laid_out, read_back, whole_size};
 pub use layout::Layout;
+pub use members::Members;
 pub use place::layout_of;
 pub use scalar::Scalar;
 pub use spot::Spot;
