@@ -40,7 +40,7 @@ impl Extent {
     pub fn nothing(alloc: Global) -> Extent
         ensures { IsExtentOf nothing result }
     {
-        Extent::Laid(Layout::empty(alloc, 1))
+        Extent::Laid(Layout::nothing(alloc))
     }
 
     /// What is known of an array of so many elements, this being known of one.

@@ -103,7 +103,15 @@ impl Layout {
         }
     }
 
-    pub(crate) fn of_scalar(alloc: Global, scalar: Scalar) -> Result<Layout, NoMemory>
+    /// The layout of the type without a value.
+    pub fn nothing(alloc: Global) -> Layout
+        ensures { result ≡ empty_shape 1 }
+    {
+        Layout::empty(alloc, 1)
+    }
+
+    /// The layout of a scalar.
+    pub fn of_scalar(alloc: Global, scalar: Scalar) -> Result<Layout, NoMemory>
         ensures { IfOk result (λ layout. layout ≡ scalar_shape scalar) }
     {
         let mut scalars = FieldCellList::new(alloc);

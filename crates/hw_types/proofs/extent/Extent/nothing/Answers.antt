@@ -3,4 +3,4 @@ use Rattle.hw_types.proofs.Types.{scalar_count-Nothing, shape_of-Nothing}
 use Rattle.hw_types.proofs.extent.Extent.nothing.Goals as goal
 
 pub returns : goal.returns
-returns c = record { few = rw scalar_count-Nothing (omega arith); laid = c.empty.ensures ∙ sym shape_of-Nothing }
+returns c = record { few = rw scalar_count-Nothing (omega arith); laid = c.nothing.ensures ∙ sym shape_of-Nothing }
