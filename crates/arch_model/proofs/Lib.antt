@@ -1,1 +1,5 @@
+pub mod BaseTypes
+pub mod Children
 pub mod Names
+pub mod OneType
+pub mod Types
