@@ -4,3 +4,4 @@ pub mod LookUp
 pub mod Receivers
 pub mod TypeTable
 pub mod Types
+pub mod Values

@@ -1,6 +1,6 @@
 use Rattle.rts_rules.proofs.Queues.{kept-released, kept-received}
 use Rattle.arch_model.specs.LookUp.{receivers_of}
-use Rattle.rts_rules.proofs.state.ServiceState.step.Goals as goal
+use Rattle.rts_rules.proofs.state.ServiceState.step_of_device.Goals as goal
 
 pub returns-in-Receive-clause-started : goal.returns-in-Receive-clause-started
 returns-in-Receive-clause-started c =
