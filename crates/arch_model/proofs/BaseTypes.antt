@@ -1,23 +1,25 @@
 -- The base types are a table of types.
-use Rattle.std.proofs.Common.{◌≡◌, ◌≢◌, ℕ, List, [], ◌∷◌, Some, length, take, get_or, All, refl, sym, subst, arith}
+use Rattle.std.proofs.Common.{◌≡◌, ◌≢◌, ◌+◌, ℕ, List, [], ◌∷◌, ◌++◌, map, Some, length, take, get_or, All, refl, sym, subst, arith}
 use Rattle.std.proofs.lemmas.List.Elements.{All-nil, All-cons}
 use Rattle.std.proofs.lemmas.Option.{slice_get_within, get_or_from_slice_get}
 use Rattle.hw_types.specs.declared.ty.Ty.{Ty}
 use Rattle.hw_types.specs.declared.ty.Ty.TheVariants.{One, Nothing}
-use Rattle.hw_types.specs.declared.scalar.Scalar.{Scalar}
+use Rattle.hw_text.specs.declared.base_type.BaseType.{BaseType}
+use Rattle.hw_text.specs.declared.base_type.BaseType.TheVariants.{Boolean, Integer8, Integer16, Integer32, Integer64, Unsigned8, Unsigned16, Unsigned32, Unsigned64}
+use Rattle.hw_text.specs.BaseTypes.{all_bases}
 use Rattle.hw_types.specs.declared.scalar.Scalar.TheVariants as scalar
 use Rattle.hw_types.specs.Extent.{IsLayoutOf}
 use Rattle.hw_types.proofs.Types.{scalar_count-One, scalar_count-Nothing, shape_of-One, shape_of-Nothing}
 use Rattle.arch_model.specs.declared.form.Form.TheVariants as form
 use Rattle.arch_model.specs.declared.type_row.TypeRow.{TypeRow}
-use Rattle.arch_model.specs.BaseTypes.{base_rows, base_row, nothing_row}
-use Rattle.arch_model.specs.Types.{made_of, StandAt, StandsFor, StandForTypes}
+use Rattle.arch_model.specs.BaseTypes.{base_rows, base_row, nothing_row, rows_from, scalar_of}
+use Rattle.arch_model.specs.Types.{made_of, StandAt, StandsFor, StandForEach, StandForTypes}
 use Rattle.arch_model.specs.TypeTable.{IsTypeTable, IsLowerName, HasWords, HasParts, HasSame, AreOne, choices_of, declared_rows, IsTypeName}
 use Rattle.arch_model.proofs.Types.{stands-at}
 
 -- a row of a base type, or that of no value
 pub data IsBase : TypeRow → Type 0 where
-  Base : (place : ℕ) (name : List ℕ) (s : Scalar) → choices_of s ≡ 0 → s ≢ scalar.Choice 0 → IsBase (base_row place name s)
+  Base : (place : ℕ) (base : BaseType) → IsBase (base_row place base)
   Empty : IsBase nothing_row
 
 -- a fact of each member, one after another
@@ -29,89 +31,47 @@ each-all : (P : TypeRow → Type 0) (rows : List TypeRow) → Each P rows → Al
 each-all P [] each = All-nil P
 each-all P (row ∷ rows) each = All-cons P row rows each.0 (each-all P rows each.1)
 
-bases-each : Each IsBase base_rows
-unfolding base_rows
-bases-each =
-    let base : (place : ℕ) (name : List ℕ) (s : Scalar) → choices_of s ≡ 0 → s ≢ scalar.Choice 0 → IsBase (base_row place name s) = Base in (
-      base 0 _ scalar.Flag refl (λ e. absurd (cc)),
-      (
-        base 1 _ scalar.I8 refl (λ e. absurd (cc)),
-        (
-          base 2 _ scalar.I16 refl (λ e. absurd (cc)),
-          (
-            base 3 _ scalar.I32 refl (λ e. absurd (cc)),
-            (
-              base 4 _ scalar.I64 refl (λ e. absurd (cc)),
-              (
-                base 5 _ scalar.U8 refl (λ e. absurd (cc)),
-                (
-                  base 6 _ scalar.U16 refl (λ e. absurd (cc)),
-                  (
-                    base 7 _ scalar.U32 refl (λ e. absurd (cc)),
-                    (
-                      base 8 _ scalar.U64 refl (λ e. absurd (cc)),
-                      (Empty, tt),
-                    ),
-                  ),
-                ),
-              ),
-            ),
-          ),
-        ),
-      ),
-    )
+bases-each : (place : ℕ) (bases : List BaseType) → Each IsBase (rows_from place bases ++ nothing_row ∷ [])
+bases-each place [] = (Empty, tt)
+bases-each place (base ∷ bases) = (Base place base, bases-each (place + 1) bases)
 
 bases : All IsBase base_rows
-bases = each-all IsBase base_rows bases-each
+unfolding base_rows
+bases = each-all IsBase (rows_from 0 all_bases ++ nothing_row ∷ []) (bases-each 0 all_bases)
+
+types-each : (types : List Ty) (place : ℕ) (bases : List BaseType) →
+    StandForEach types (rows_from place bases ++ nothing_row ∷ []) (map (λ base. One (scalar_of base)) bases ++ Nothing ∷ [])
+types-each types place [] = (record { parts = []; placed = tt; made = refl }, tt)
+types-each types place (base ∷ bases) = (record { parts = []; placed = tt; made = refl }, types-each types (place + 1) bases)
 
 stands : StandForTypes base_rows
 unfolding base_rows
 stands =
-    let one : (types : List Ty) (place : ℕ) (name : List ℕ) (s : Scalar) → StandsFor types (base_row place name s) (One s) =
-    λ types place name s. record { parts = []; placed = tt; made = refl } in
-    let types : List Ty = One scalar.Flag ∷ One scalar.I8 ∷ One scalar.I16 ∷ One scalar.I32 ∷ One scalar.I64 ∷ One scalar.U8 ∷ One scalar.U16 ∷ One scalar.U32 ∷ One scalar.U64 ∷ Nothing ∷ [] in (
-      types,
-      (
-        one types 0 _ scalar.Flag,
-        (
-          one types 1 _ scalar.I8,
-          (
-            one types 2 _ scalar.I16,
-            (
-              one types 3 _ scalar.I32,
-              (
-                one types 4 _ scalar.I64,
-                (
-                  one types 5 _ scalar.U8,
-                  (
-                    one types 6 _ scalar.U16,
-                    (
-                      one types 7 _ scalar.U32,
-                      (
-                        one types 8 _ scalar.U64,
-                        (record { parts = []; placed = tt; made = refl }, tt),
-                      ),
-                    ),
-                  ),
-                ),
-              ),
-            ),
-          ),
-        ),
-      ),
-    )
+    let types : List Ty = map (λ base. One (scalar_of base)) all_bases ++ Nothing ∷ [] in
+    (types, types-each types 0 all_bases)
+
+plain : (base : BaseType) → (scalar_of base ≢ scalar.Choice 0) × (choices_of (scalar_of base) ≡ 0)
+plain Boolean = (λ e. absurd (cc), refl)
+plain Integer8 = (λ e. absurd (cc), refl)
+plain Integer16 = (λ e. absurd (cc), refl)
+plain Integer32 = (λ e. absurd (cc), refl)
+plain Integer64 = (λ e. absurd (cc), refl)
+plain Unsigned8 = (λ e. absurd (cc), refl)
+plain Unsigned16 = (λ e. absurd (cc), refl)
+plain Unsigned32 = (λ e. absurd (cc), refl)
+plain Unsigned64 = (λ e. absurd (cc), refl)
 
 no-parts : (types parts : List Ty) → StandAt types [] parts → parts ≡ []
 no-parts types [] at = refl
 no-parts types (part ∷ parts) at = elim at [ ]
 
 base-layout : {row : TypeRow} → IsBase row → (types : List Ty) (type : Ty) → StandsFor types row type → IsLayoutOf type row.layout
-base-layout (Base place name s plain some) types type is =
+base-layout (Base place base) types type is =
     let none = no-parts types is.parts is.placed in
-    let made : made_of (form.One s) [] ≡ Some type = subst (λ parts. made_of (form.One s) parts ≡ Some type) none is.made in
-    let same : One s ≡ type = cc in
-    subst (λ t. IsLayoutOf t (base_row place name s).layout) same
-    (record { few = rw (scalar_count-One s) (omega arith); laid = sym (shape_of-One s) })
+    let made : made_of (form.One (scalar_of base)) [] ≡ Some type = subst (λ parts. made_of (form.One (scalar_of base)) parts ≡ Some type) none is.made in
+    let same : One (scalar_of base) ≡ type = cc in
+    subst (λ t. IsLayoutOf t (base_row place base).layout) same
+    (record { few = rw (scalar_count-One (scalar_of base)) (omega arith); laid = sym (shape_of-One (scalar_of base)) })
 base-layout Empty types type is =
     let none = no-parts types is.parts is.placed in
     let made : made_of form.Nothing [] ≡ Some type = subst (λ parts. made_of form.Nothing parts ≡ Some type) none is.made in
@@ -120,10 +80,10 @@ base-layout Empty types type is =
     (record { few = rw scalar_count-Nothing (omega arith); laid = sym shape_of-Nothing })
 
 base-words : {row : TypeRow} → IsBase row → HasWords row
-base-words (Base place name s plain some) = record {
+base-words (Base place base) = record {
   names = All-nil IsLowerName;
   differ = λ i j d below inside. absurd (omega (arith, inside));
-  fit = record { some = some; each = sym plain; no_parts = refl };
+  fit = record { some = (plain base).0; each = sym (plain base).1; no_parts = refl };
 }
 base-words Empty = record {
   names = All-nil IsLowerName;
@@ -132,7 +92,7 @@ base-words Empty = record {
 }
 
 base-parts : {row : TypeRow} → IsBase row → HasParts base_rows row
-base-parts (Base place name s plain some) = λ k d h. absurd (omega (arith, h))
+base-parts (Base place base) = λ k d h. absurd (omega (arith, h))
 base-parts Empty = λ k d h. absurd (omega (arith, h))
 
 own : (row : TypeRow) → AreOne row row

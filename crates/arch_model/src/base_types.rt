@@ -1,58 +1,24 @@
 //! The types that every model has.
 
-ghost use Rattle.std.specs.Prelude.{◌≡◌, ◌≤◌, ◌++◌, ◌∷◌, [], length, IfOk, OnOk};
-ghost use Rattle.arch_model.specs.BaseTypes.{base_rows, base_row, nothing_row, rows_from};
+ghost use Rattle.std.specs.Prelude.{◌≡◌, ◌≤◌, length, IfOk};
+ghost use Rattle.arch_model.specs.BaseTypes.{base_rows, base_row, nothing_row, rows_from, scalar_of};
 
 use crate::{Form, NumberList, TypeRow, TypeRowList};
-use hw_text::{NoMemory, TextBuf, WordList};
+use hw_text::{BaseType, NoMemory, TextBuf, WordList};
 use hw_types::{Layout, Scalar};
 use std::alloc::Global;
 
-/// A type of the package Base_Types (SAE AS5506-2, Data Modeling annex).
-#[derive(Clone, Copy)]
-pub struct BaseType {
-    pub name: &'static str,
-    pub scalar: Scalar,
-}
-
 /// The base types, in the order of their rows.
 static BASE_TYPES: [BaseType; 9] = [
-    BaseType {
-        name: "boolean",
-        scalar: Scalar::Flag,
-    },
-    BaseType {
-        name: "integer_8",
-        scalar: Scalar::I8,
-    },
-    BaseType {
-        name: "integer_16",
-        scalar: Scalar::I16,
-    },
-    BaseType {
-        name: "integer_32",
-        scalar: Scalar::I32,
-    },
-    BaseType {
-        name: "integer_64",
-        scalar: Scalar::I64,
-    },
-    BaseType {
-        name: "unsigned_8",
-        scalar: Scalar::U8,
-    },
-    BaseType {
-        name: "unsigned_16",
-        scalar: Scalar::U16,
-    },
-    BaseType {
-        name: "unsigned_32",
-        scalar: Scalar::U32,
-    },
-    BaseType {
-        name: "unsigned_64",
-        scalar: Scalar::U64,
-    },
+    BaseType::Boolean,
+    BaseType::Integer8,
+    BaseType::Integer16,
+    BaseType::Integer32,
+    BaseType::Integer64,
+    BaseType::Unsigned8,
+    BaseType::Unsigned16,
+    BaseType::Unsigned32,
+    BaseType::Unsigned64,
 ];
 
 /// The place of the type without a value, which event ports carry.
@@ -69,6 +35,23 @@ pub fn base_rows(alloc: Global) -> Result<TypeRowList, NoMemory>
     Ok(rows)
 }
 
+/// The scalar that a base type is.
+pub fn scalar_of(base: BaseType) -> Scalar
+    ensures { result ≡ scalar_of base }
+{
+    match base {
+        BaseType::Boolean => Scalar::Flag,
+        BaseType::Integer8 => Scalar::I8,
+        BaseType::Integer16 => Scalar::I16,
+        BaseType::Integer32 => Scalar::I32,
+        BaseType::Integer64 => Scalar::I64,
+        BaseType::Unsigned8 => Scalar::U8,
+        BaseType::Unsigned16 => Scalar::U16,
+        BaseType::Unsigned32 => Scalar::U32,
+        BaseType::Unsigned64 => Scalar::U64,
+    }
+}
+
 /// The rows of these types.
 fn listed(alloc: Global, types: &[BaseType]) -> Result<TypeRowList, NoMemory>
     requires { length types.now ≤ 9 }
@@ -76,21 +59,22 @@ fn listed(alloc: Global, types: &[BaseType]) -> Result<TypeRowList, NoMemory>
 {
     let mut rows = TypeRowList::new(alloc);
     for (place, base) in types.iter().enumerate() {
-        rows.push(scalar_row(alloc, place as u32, *base)?)?;
+        rows.push(row_of(alloc, place as u32, *base)?)?;
     }
     Ok(rows)
 }
 
 /// The row of a base type.
-fn scalar_row(alloc: Global, place: u32, base: BaseType) -> Result<TypeRow, NoMemory>
-    ensures { IfOk result (λ row. row ≡ base_row place base.name.now base.scalar) }
+fn row_of(alloc: Global, place: u32, base: BaseType) -> Result<TypeRow, NoMemory>
+    ensures { IfOk result (λ row. row ≡ base_row place base) }
 {
     let mut name = TextBuf::new(alloc);
-    name.word(base.name.as_bytes())?;
+    name.word(base.name().as_bytes())?;
+    let scalar = scalar_of(base);
     Ok(TypeRow {
         name,
-        form: Form::One(base.scalar),
-        layout: Layout::of_scalar(alloc, base.scalar)?,
+        form: Form::One(scalar),
+        layout: Layout::of_scalar(alloc, scalar)?,
         words: WordList::new(alloc),
         parts: NumberList::new(alloc),
         same: place,

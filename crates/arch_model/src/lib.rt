@@ -18,7 +18,7 @@ mod role;
 mod type_row;
 
 pub use arch::Arch;
-pub use base_types::{BaseType, EVENT_TYPE, base_rows};
+pub use base_types::{EVENT_TYPE, base_rows, scalar_of};
 pub use form::Form;
 pub use id::{PdId, PortId};
 pub use kind::Kind;

@@ -5,8 +5,8 @@ ghost use Rattle.hw_types.specs.Layout.{shifted, scalar_shape, empty_shape, arra
 ghost use Rattle.hw_types.specs.Shape.{IsLaidOut, IsAlign};
 ghost use Rattle.hw_types.specs.Value.{IsValueOf};
 
-use crate::{FieldCell, FieldCellList, Scalar};
-use hw_text::{Duplicate, NoMemory};
+use crate::{Copied, FieldCell, FieldCellList, Scalar};
+use hw_text::NoMemory;
 use std::alloc::Global;
 use std::marker::Model;
 
@@ -74,7 +74,7 @@ impl Layout {
         ensures { IfOk result (λ copy. copy ≡ self.now) }
     {
         Ok(Layout {
-            scalars: self.scalars.duplicate(self.scalars.allocator())?,
+            scalars: self.scalars.copy()?,
             size: self.size,
             align: self.align,
         })

@@ -2,6 +2,7 @@
 #![tactic(auto)]
 
 mod bytes;
+mod copied;
 mod count;
 mod extent;
 mod fault;
@@ -16,6 +17,7 @@ mod ty;
 mod value;
 
 pub use bytes::{bytes_of, value_of};
+pub use copied::Copied;
 pub use extent::{Extent, Width};
 pub use fault::TypeFault;
 pub use field_cell::{FieldCell, FieldCellList};

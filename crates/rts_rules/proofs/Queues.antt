@@ -13,7 +13,7 @@ use Rattle.arch_model.specs.declared.link.Link.{Link}
 use Rattle.arch_model.specs.declared.port.Port.{Port}
 use Rattle.arch_model.specs.LookUp.{receivers_of}
 use Rattle.rts_rules.specs.Services.{Queue, Services, appended, emptied, IsStateOf}
-use Rattle.rts_rules.specs.Step.{changed_from, is_among, released, received}
+use Rattle.rts_rules.specs.Left.{changed_from, is_among, released, received}
 
 -- tests that agree from this place on change the same queues
 pub changed_from-same : (place : ℕ) (p q : ℕ → Bool) (change : Queue → Queue) (queues : List Queue) →

@@ -4,7 +4,8 @@ mod device;
 
 ghost use Rattle.std.specs.Prelude.{◌≡◌, ◌<◌, IsSomeAnd, slice_get, IfOk, OnOk, OnErr, length};
 ghost use Rattle.rts_rules.specs.Services.{start_of, IsStateOf};
-ghost use Rattle.rts_rules.specs.Step.{IsAllowed, after, IsEventOf, WantsMemory};
+ghost use Rattle.rts_rules.specs.Left.{after};
+ghost use Rattle.rts_rules.specs.Step.{IsAllowed, IsEventOf, WantsMemory};
 ghost use Rattle.rts_rules.specs.Fault.{IfIllegal, IfNoMemory};
 ghost use Rattle.rts_rules.specs.Rule.{rule_of};
 

@@ -3,7 +3,8 @@
 ghost use Rattle.std.specs.Prelude.{◌≡◌, ◌↔◌, ◌<◌, true, IsTrue, IfOk, OnOk, OnErr, length, replicate};
 ghost use Rattle.arch_model.specs.LookUp.{receivers_of};
 ghost use Rattle.rts_rules.specs.Services.{IsStateOf};
-ghost use Rattle.rts_rules.specs.Step.{DeviceAllows, left_by_device, IsEventOf, IsPortOf, WantsMemory, has_sender, has_receiver, Waits, released, received};
+ghost use Rattle.rts_rules.specs.Left.{left_by_device, released, received};
+ghost use Rattle.rts_rules.specs.Step.{DeviceAllows, IsEventOf, IsPortOf, WantsMemory, has_sender, has_receiver, Waits};
 ghost use Rattle.rts_rules.specs.Fault.{IfIllegal, IfNoMemory};
 ghost use Rattle.rts_rules.specs.Rule.{rule_of};
 
@@ -11,8 +12,8 @@ use crate::state::ServiceState;
 use crate::values::{is_value_of_port, same_values};
 use crate::{Event, StepFault, What};
 use arch_model::{Arch, PdId, PortId};
-use hw_text::{Duplicate, NoMemory, Rows};
-use hw_types::{Value, ValueList};
+use hw_text::{NoMemory, Rows};
+use hw_types::{Copied, Value, ValueList};
 use std::alloc::Global;
 
 impl ServiceState {
@@ -117,7 +118,7 @@ fn copies_for(
 {
     let mut copies = Rows::new(alloc);
     for _receiver in arch.receivers(port) {
-        copies.push(value.duplicate(alloc)?)?;
+        copies.push(value.copy()?)?;
     }
     Ok(copies)
 }
