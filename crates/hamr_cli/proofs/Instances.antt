@@ -84,9 +84,9 @@ parts-are m pds ports links types origins shape d p t o e =
     let thin = joined-thin m links shape e in (
       thin.0,
       ap (λ (l : List Pd). parts_of l ports links types origins) d ∙ ap (λ (l : List Port). parts_of (domains_of m) l links types origins) p
-      ∙ ap (λ (l : List Link). parts_of (domains_of m) (ports_of m) l types origins) thin.1
-      ∙ ap (λ (l : List TypeRow). parts_of (domains_of m) (ports_of m) (with_links [] (links_named m)) l origins) t
-      ∙ ap (λ (l : List Origin). parts_of (domains_of m) (ports_of m) (with_links [] (links_named m)) base_rows l) o,
+          ∙ ap (λ (l : List Link). parts_of (domains_of m) (ports_of m) l types origins) thin.1
+          ∙ ap (λ (l : List TypeRow). parts_of (domains_of m) (ports_of m) (with_links [] (links_named m)) l origins) t
+          ∙ ap (λ (l : List Origin). parts_of (domains_of m) (ports_of m) (with_links [] (links_named m)) base_rows l) o,
     )
 
 pub parts-fit : (m : ThinModel) (parts : ArchParts) → IsThinModel m × (parts ≡ instance_of m) → IsWellFormed parts

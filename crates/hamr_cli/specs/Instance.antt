@@ -34,12 +34,17 @@ first_place = record { line = 1; column = 1 }
 
 -- where a device comes from: its package; it has no thread and no contract
 abbrev pub device_origin : List ℕ → Origin
-device_origin package = record {
-  package = package; thread = []; at = first_place; has_annex = false; annex = []; annex_at = first_place;
+device_origin name = record {
+  «package» = name;
+  thread = [];
+  at = first_place;
+  has_annex = false;
+  annex = [];
+  annex_at = first_place;
 }
 
 abbrev pub origin_of : List ℕ → Subcomponent → Origin
-origin_of package s = device_origin package
+origin_of name s = device_origin name
 
 -- Queue_Size, which is 1 where none is written
 abbrev pub size_of : Way → ℕ
@@ -141,5 +146,10 @@ origins_of m = map (origin_of m.package_name) m.subcomponents
 -- no types are declared; no frame period is written, so it is 1 ms
 abbrev pub instance_of : ThinModel → ArchParts
 instance_of m = record {
-  pds = domains_of m; ports = ports_of m; links = with_links [] (links_named m); types = base_rows; frame = 1000000000; origins = origins_of m;
+  pds = domains_of m;
+  ports = ports_of m;
+  links = with_links [] (links_named m);
+  types = base_rows;
+  frame = 1000000000;
+  origins = origins_of m;
 }

@@ -38,24 +38,24 @@ fn domain(subcomponent: &Subcomponent) -> Result<Pd, NoMemory>
 /// Where these subcomponents come from.
 pub fn origins(
     alloc: Global,
-    package: &Name,
+    package_name: &Name,
     subcomponents: &[Subcomponent],
 ) -> Result<OriginList, NoMemory>
-    ensures { IfOk result (λ origins. origins ≡ map (origin_of package.now) subcomponents.now) }
+    ensures { IfOk result (λ origins. origins ≡ map (origin_of package_name.now) subcomponents.now) }
 {
     let mut origins = Rows::new(alloc);
     for _subcomponent in subcomponents {
-        origins.push(origin(alloc, package)?)?;
+        origins.push(origin(alloc, package_name)?)?;
     }
     Ok(origins)
 }
 
 /// Where a device comes from.
-fn origin(alloc: Global, package: &Name) -> Result<Origin, NoMemory>
-    ensures { IfOk result (λ origin. origin ≡ device_origin package.now) }
+fn origin(alloc: Global, package_name: &Name) -> Result<Origin, NoMemory>
+    ensures { IfOk result (λ origin. origin ≡ device_origin package_name.now) }
 {
     let mut name = TextBuf::new(alloc);
-    name.word(package.rows())?;
+    name.word(package_name.rows())?;
     Ok(Origin {
         package: name,
         thread: TextBuf::new(alloc),

@@ -24,7 +24,12 @@ new-requires c =
     let links = joined-at m c.rows-4.result.now c.rows-5.result.now c.rows-6.result.now c.in_ok-links.field-0 (c.rows-4.ensures ∙ pds) (c.rows-5.ensures ∙ ports) c.rows-6.ensures c.in_ok-links.ensures in
     let origins = c.in_ok-origins.ensures ∙ ap (map (origin_of m.package_name)) c.rows-7.ensures in
     parts-fit m (record {
-      pds = c.in_ok-pds.pds; ports = c.in_ok-ports.ports; links = c.in-Some.links; types = c.in_ok-types.types; frame = 1000000000; origins = c.in_ok-origins.origins;
+      pds = c.in_ok-pds.pds;
+      ports = c.in_ok-ports.ports;
+      links = c.in-Some.links;
+      types = c.in_ok-types.types;
+      frame = 1000000000;
+      origins = c.in_ok-origins.origins;
     })
     (parts-are m c.in_ok-pds.pds c.in_ok-ports.ports c.in-Some.links c.in_ok-types.types c.in_ok-origins.origins c.requires pds ports
     c.in_ok-types.ensures origins (sym links ∙ c.in-Some.is))
