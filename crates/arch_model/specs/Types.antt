@@ -1,5 +1,5 @@
 -- The types that the rows of an architecture stand for (this project's own).
-use Rattle.std.specs.Prelude.{◌≡◌, ℕ, List, [], ◌∷◌, Option, Some, None, slice_get}
+use Rattle.std.specs.Prelude.{◌≡◌, ℕ, ◌<◌, List, [], ◌∷◌, length, Option, Some, None, slice_get, All}
 use Rattle.hw_types.specs.declared.ty.Ty.{Ty}
 use Rattle.hw_types.specs.declared.ty.Ty.TheVariants.{One, Fields, Times, Nothing}
 use Rattle.arch_model.specs.declared.form.Form.{Form}
@@ -44,6 +44,11 @@ AreTypesOf rows types = StandForEach types rows types
 -- no row contains itself: each stands for a type
 abbrev pub StandForTypes : List TypeRow → Type 0
 StandForTypes rows = (types : List Ty) × AreTypesOf rows types
+
+-- each row refers to rows of a lower rank alone, so that none contains itself
+abbrev pub IsRanked : (ℕ → ℕ) → List TypeRow → Type 0
+IsRanked rank rows = (place : ℕ) (row : TypeRow) → slice_get rows place ≡ Some row
+    → All (λ part. (part < length rows) × (rank part < rank place)) row.parts
 
 -- the type of the row at a place
 pub record IsTypeAt (rows : List TypeRow) (place : ℕ) (type : Ty) : Type 0 where

@@ -22,7 +22,7 @@ pub use base_types::{EVENT_TYPE, base_rows, scalar_of};
 pub use form::Form;
 pub use id::{PdId, PortId};
 pub use kind::Kind;
-pub use laws::{base_is_table, one_type};
+pub use laws::{base_is_table, one_type, ranked_rows_have_types};
 pub use link::{Link, LinkList};
 pub use origin::{Origin, OriginList};
 pub use parts::ArchParts;
