@@ -11,9 +11,6 @@ use Rattle.arch_model.specs.declared.form.Form.TheVariants as form
 use Rattle.arch_model.specs.Types.{made_of}
 
 -- a type beside its parts
-Opened : Type 0
-Opened = Ty × List Ty
-
 abbrev opened_step : Ty-F (Ty × List Ty) → Ty × List Ty
 opened_step (ty.One s) = (One s, [])
 opened_step (ty.Fields es) = (Fields (map (λ e. e.0) es), map (λ e. e.0) es)
