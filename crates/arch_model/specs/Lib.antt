@@ -1,4 +1,7 @@
 pub mod Arch
+pub mod BaseTypes
 pub mod LookUp
-pub mod PortType
 pub mod Receivers
+pub mod TypeTable
+pub mod Types
+pub mod Values

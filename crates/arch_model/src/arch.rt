@@ -6,7 +6,10 @@ ghost use Rattle.arch_model.specs.LookUp.{pd_named, receivers_of};
 ghost use Rattle.arch_model.specs.Receivers.{receivers_left};
 
 use crate::name_index::NameIndex;
-use crate::{ArchParts, Link, LinkList, Pd, PdId, PdList, Port, PortId, PortList, Receivers};
+use crate::{
+    ArchParts, Link, LinkList, Origin, OriginList, Pd, PdId, PdList, Port, PortId, PortList,
+    Receivers, TypeRow, TypeRowList,
+};
 use hw_text::{Name, NoMemory};
 use std::alloc::Global;
 use std::marker::Model;
@@ -17,7 +20,9 @@ pub struct Arch {
     pds: PdList,
     ports: PortList,
     links: LinkList,
+    types: TypeRowList,
     frame: u64,
+    origins: OriginList,
     names: NameIndex,
 }
 
@@ -28,9 +33,9 @@ impl Model for Arch {
 
     ghost Value = { ArchParts };
 
-    ghost view = { λ a. record { pds = a.pds; ports = a.ports; links = a.links; frame = a.frame } };
+    ghost view = { λ a. record { pds = a.pds; ports = a.ports; links = a.links; types = a.types; frame = a.frame; origins = a.origins } };
 
-    ghost invariant = { λ a. IsWellFormed (record { pds = a.pds; ports = a.ports; links = a.links; frame = a.frame })
+    ghost invariant = { λ a. IsWellFormed (record { pds = a.pds; ports = a.ports; links = a.links; types = a.types; frame = a.frame; origins = a.origins })
         × (a.names ≡ map (λ pd. pd.name) a.pds) };
 }
 
@@ -44,14 +49,18 @@ impl Arch {
             pds,
             ports,
             links,
+            types,
             frame,
+            origins,
         } = parts;
         let names = NameIndex::of(alloc, pds.rows())?;
         Ok(Arch {
             pds,
             ports,
             links,
+            types,
             frame,
+            origins,
             names,
         })
     }
@@ -75,6 +84,21 @@ impl Arch {
         ensures well_formed { IsWellFormed self.now }
     {
         self.links.rows()
+    }
+
+    pub fn types(&self) -> &[TypeRow]
+        ensures rows { result.now ≡ self.now.types }
+        ensures well_formed { IsWellFormed self.now }
+    {
+        self.types.rows()
+    }
+
+    /// The origins of the domains, in their order.
+    pub fn origins(&self) -> &[Origin]
+        ensures rows { result.now ≡ self.now.origins }
+        ensures well_formed { IsWellFormed self.now }
+    {
+        self.origins.rows()
     }
 
     /// The frame period, in picoseconds.

@@ -1,6 +1,6 @@
 //! What an architecture is made of.
 
-use crate::{LinkList, PdList, PortList};
+use crate::{LinkList, OriginList, PdList, PortList, TypeRowList};
 
 /// The tables of an architecture, before they are known to fit one another.
 #[derive(Debug, Drop)]
@@ -8,6 +8,8 @@ pub struct ArchParts {
     pub pds: PdList,
     pub ports: PortList,
     pub links: LinkList,
+    pub types: TypeRowList,
     /// The frame period, in picoseconds.
     pub frame: u64,
+    pub origins: OriginList,
 }

@@ -10,8 +10,9 @@ use Rattle.arch_model.specs.declared.id.PortId.{PortId}
 use Rattle.arch_model.specs.declared.pd.Pd.{Pd}
 use Rattle.arch_model.specs.declared.port.Port.{Port}
 use Rattle.arch_model.specs.declared.link.Link.{Link}
-use Rattle.arch_model.specs.declared.kind.Kind.TheVariants.{EventItem}
-use Rattle.arch_model.specs.Arch.{IsLink, IsBefore, Joins}
+use Rattle.arch_model.specs.declared.type_row.TypeRow.{TypeRow}
+use Rattle.arch_model.specs.Arch.{IsLink, IsBefore, Joins, same_of}
+use Rattle.hamr_cli.proofs.Ports.{IsIntegerPort}
 use Rattle.hamr_cli.specs.declared.thin.connection.Connection.{Connection}
 use Rattle.hamr_cli.specs.Instance.{tip_port, can_join, joined_ports, link_of, with_link, with_links, ends_at, joined}
 use Rattle.hamr_cli.proofs.Pairs.{Each, Pairs, each-weaker, each-filter_map, each-all, pairs-all, any-none, none-any}
@@ -70,48 +71,50 @@ each-at P [] i x e f = absurd (none-some x f)
 each-at P (y ∷ ys) zero x e f = subst P (same_Some y x f) e.0
 each-at P (y ∷ ys) (suc i) x e f = each-at P ys i x e.1 f
 
-can-joins : (from to : Port) → can_join from to ≡ true → from.kind ≡ to.kind → Joins from to
-can-joins from to can kinds =
+can-joins : (types : List TypeRow) (from to : Port) → can_join from to ≡ true → IsIntegerPort from → IsIntegerPort to → Joins types from to
+can-joins types from to can out into =
     let parts = and_parts from.outward (not to.outward && not (from.owner.0 == to.owner.0)) can in
     let rest = and_parts (not to.outward) (not (from.owner.0 == to.owner.0)) parts.1 in
     record {
       out = parts.0;
       in_ = not-true to.outward rest.0;
-      kind = kinds;
+      kind = out.kind ∙ sym into.kind;
       other_domain = λ same. eqb-false from.owner.0 to.owner.0 (not-true (from.owner.0 == to.owner.0) rest.1) (ap (λ (p : PdId). p.0) same);
+      one_type = ap (same_of types) (out.type ∙ sym into.type);
     }
 
-same-joins : (from to other last : Port) → from ≡ other → to ≡ last → Joins from to → Joins other last
-same-joins from to other last e f joins = subst (λ (p : Port). Joins other p) f (subst (λ (p : Port). Joins p to) e joins)
+same-joins : (types : List TypeRow) (from to other last : Port) → from ≡ other → to ≡ last → Joins types from to → Joins types other last
+same-joins types from to other last e f joins = subst (λ (p : Port). Joins types other p) f (subst (λ (p : Port). Joins types p to) e joins)
 
-module _ (ports : List Port) (kinds : Each (λ port. port.kind ≡ EventItem) ports) where
-  joined_ports-fit : (from to : PortId) (link : Link) → joined_ports ports from to ≡ Some link → IsLink ports link
+module _ (ports : List Port) (types : List TypeRow) (kinds : Each IsIntegerPort ports) where
+  joined_ports-fit : (from to : PortId) (link : Link) → joined_ports ports from to ≡ Some link → IsLink ports types link
   joined_ports-fit from to link e =
       let made : Link = record { from = from; to = to } in
       option_and_then_some _ (slice_get ports from.0) link e (λ out o p.
       option_and_then_some _ (slice_get ports to.0) link p (λ into i q.
       let parts = cond_some (can_join out into) made link q in
-      let kind = each-at (λ (port : Port). port.kind ≡ EventItem) ports from.0 out kinds o ∙ sym (each-at (λ (port : Port). port.kind ≡ EventItem) ports to.0 into kinds i) in
-      let fits : IsLink ports made = record {
+      let leaves = each-at IsIntegerPort ports from.0 out kinds o in
+      let arrives = each-at IsIntegerPort ports to.0 into kinds i in
+      let fits : IsLink ports types made = record {
         from = slice_get_within ports from.0 out o;
         to = slice_get_within ports to.0 into i;
-        joins = λ f t ef et. same-joins out into f t (same_Some out f (sym o ∙ ef)) (same_Some into t (sym i ∙ et)) (can-joins out into parts.0 kind);
+        joins = λ f t ef et. same-joins types out into f t (same_Some out f (sym o ∙ ef)) (same_Some into t (sym i ∙ et)) (can-joins types out into parts.0 leaves arrives);
       } in
-      subst (IsLink ports) parts.1 fits))
+      subst (IsLink ports types) parts.1 fits))
 
-  link-fits : (pds : List Pd) (c : Connection) (link : Link) → link_of pds ports c ≡ Some link → IsLink ports link
+  link-fits : (pds : List Pd) (c : Connection) (link : Link) → link_of pds ports c ≡ Some link → IsLink ports types link
   unfolding link_of
   link-fits pds c link e =
       option_and_then_some _ (tip_port pds ports c.from) link e (λ from f p.
       option_and_then_some _ (tip_port pds ports c.to) link p (λ to t q. joined_ports-fit from to link q))
 
   -- links in order, each of a connection and no two ending at one port
-  pub links-fit : (pds : List Pd) (cs : List Connection) → Pairs Apart (named pds ports cs) → All (IsLink ports) (with_links [] (named pds ports cs)) × AllPairs IsBefore (with_links [] (named pds ports cs)) × AllPairs Apart (with_links [] (named pds ports cs))
+  pub links-fit : (pds : List Pd) (cs : List Connection) → Pairs Apart (named pds ports cs) → All (IsLink ports types) (with_links [] (named pds ports cs)) × AllPairs IsBefore (with_links [] (named pds ports cs)) × AllPairs Apart (with_links [] (named pds ports cs))
   links-fit pds cs apart =
       let more = named pds ports cs in
-      let fit = each-filter_map (IsLink ports) (link_of pds ports) (link-fits pds) cs in
+      let fit = each-filter_map (IsLink ports types) (link_of pds ports) (link-fits pds) cs in
       let order = links-order [] more tt tt (fresh-none more) apart in (
-        each-all (IsLink ports) (with_links [] more) (each-with-all (IsLink ports) [] more tt fit),
+        each-all (IsLink ports types) (with_links [] more) (each-with-all (IsLink ports types) [] more tt fit),
         pairs-all IsBefore (with_links [] more) order.0,
         pairs-all Apart (with_links [] more) order.1,
       )

@@ -5,7 +5,8 @@ use Rattle.rts_rules.specs.declared.event.Event.{Event}
 use Rattle.rts_rules.specs.declared.rule.Rule.{Rule}
 use Rattle.rts_rules.specs.Services.{Services, start_of}
 use Rattle.rts_rules.specs.Rule.{rule_of}
-use Rattle.rts_rules.specs.Step.{IsAllowed, after}
+use Rattle.rts_rules.specs.Left.{after}
+use Rattle.rts_rules.specs.Step.{IsAllowed}
 use Rattle.rts_rules.specs.Run.{AreAllowed, after_all, IsFirstIllegal}
 use Rattle.hamr_cli.specs.declared.judgement.Judgement.{Judgement}
 use Rattle.hamr_cli.specs.declared.judgement.Judgement.TheVariants as judgement

@@ -9,12 +9,14 @@ use Rattle.arch_model.specs.declared.id.PdId.{PdId}
 use Rattle.arch_model.specs.declared.pd.Pd.{Pd}
 use Rattle.arch_model.specs.declared.port.Port.{Port}
 use Rattle.arch_model.specs.declared.kind.Kind.TheVariants.{EventItem}
+use Rattle.arch_model.specs.BaseTypes.{base_rows}
+use Rattle.arch_model.proofs.BaseTypes.{ten}
 use Rattle.arch_model.specs.Arch.{IsDomain, IsPort, HaveOwnNames}
 use Rattle.hamr_cli.specs.declared.thin.feature.Feature.{Feature}
 use Rattle.hamr_cli.specs.declared.thin.device.Device.{Device}
 use Rattle.hamr_cli.specs.declared.thin.subcomponent.Subcomponent.{Subcomponent}
 use Rattle.hamr_cli.specs.Names.{Differ}
-use Rattle.hamr_cli.specs.Instance.{domain_of, port_of, features_named, ports_from}
+use Rattle.hamr_cli.specs.Instance.{domain_of, port_of, integer_type, features_named, ports_from}
 use Rattle.hamr_cli.specs.Model.{HasThinQueue, IsThinDevice}
 use Rattle.hamr_cli.proofs.Pairs.{Each, Pairs, each-all, each-from_all, each-append, each-always, each-weaker, each-map, pairs-all, pairs-from_all, pairs-append, pairs-left, pairs-always, pairs-weaker, pairs-map, pairs-unmap}
 
@@ -47,12 +49,13 @@ pub record IsPlaced (low high : ℕ) (port : Port) : Type 0 where
   pub some_room : 1 ≤ port.size
   pub room : port.size ≤ 64
   pub kind : port.kind ≡ EventItem
+  pub type : port.ty ≡ integer_type
 
 placed-one : (domain high : ℕ) (f : Feature) → domain < high → HasThinQueue f → IsPlaced domain high (port_of (domain_id domain) f)
-placed-one domain high f below queue = record { after = omega arith; before = below; some_room = queue.some_items; room = queue.few_items; kind = refl }
+placed-one domain high f below queue = record { after = omega arith; before = below; some_room = queue.some_items; room = queue.few_items; kind = refl; type = refl }
 
 placed-wider : (low lower high : ℕ) (port : Port) → lower ≤ low → IsPlaced low high port → IsPlaced lower high port
-placed-wider low lower high port wider placed = record { after = omega (arith, placed.after); before = placed.before; some_room = placed.some_room; room = placed.room; kind = placed.kind }
+placed-wider low lower high port wider placed = record { after = omega (arith, placed.after); before = placed.before; some_room = placed.some_room; room = placed.room; kind = placed.kind; type = placed.type }
 
 pub ports-placed : (devices : List Device) (domain high : ℕ) (ss : List Subcomponent) → Each IsThinDevice devices → domain + length ss ≡ high → Each (IsPlaced domain high) (ports_from devices domain ss)
 ports-placed devices domain high [] thin counted = tt
@@ -153,21 +156,28 @@ ports-length devices domain (s ∷ ss) thin =
     let few : length features ≤ 32 = (features-fit devices s.device thin).few in
     omega (arith, length-append own (ports_from devices (domain + 1) ss), length-map features (port_of (domain_id domain)), ports-length devices (domain + 1) ss thin)
 
-placed-port : (ss : List Subcomponent) (port : Port) → IsPlaced 0 (length ss) port → IsPort (map domain_of ss) port
+placed-port : (ss : List Subcomponent) (port : Port) → IsPlaced 0 (length ss) port → IsPort (map domain_of ss) base_rows port
 placed-port ss port placed = record {
   owner = omega (arith, placed.before, length-map ss domain_of);
   some_room = placed.some_room;
   room = placed.room;
+  typed = omega (arith, placed.type, ten);
   one_value = λ sampled. let never = sym placed.kind ∙ sampled in cc;
+  event = (λ event. let never = sym placed.kind ∙ event in absurd (cc), λ event. absurd (omega (arith, placed.type, event)));
 }
+
+-- the ports of thin models are event data ports of Integer_32
+pub record IsIntegerPort (port : Port) : Type 0 where
+  pub kind : port.kind ≡ EventItem
+  pub type : port.ty ≡ integer_type
 
 -- what the ports of a model keep
 pub record PortsFit (pds : List Pd) (ports : List Port) : Type 0 where
-  pub fit : All (IsPort pds) ports
+  pub fit : All (IsPort pds base_rows) ports
   pub few : (domain : ℕ) → count_by (λ port. port.owner.0 == domain) ports ≤ 32
   pub order : AllPairs (λ port later. port.owner.0 ≤ later.owner.0) ports
   pub names : AllPairs HaveOwnNames ports
-  pub kinds : Each (λ port. port.kind ≡ EventItem) ports
+  pub kinds : Each IsIntegerPort ports
 
 pub ports-fit : (devices : List Device) (ss : List Subcomponent) → All IsThinDevice devices → PortsFit (map domain_of ss) (ports_from devices 0 ss)
 ports-fit devices ss all =
@@ -175,11 +185,11 @@ ports-fit devices ss all =
     let ports = ports_from devices 0 ss in
     let placed = ports-placed devices 0 (length ss) ss thin (omega arith) in
     record {
-      fit = each-all (IsPort (map domain_of ss)) ports (each-weaker (IsPlaced 0 (length ss)) (IsPort (map domain_of ss)) (placed-port ss) ports placed);
+      fit = each-all (IsPort (map domain_of ss) base_rows) ports (each-weaker (IsPlaced 0 (length ss)) (IsPort (map domain_of ss) base_rows) (placed-port ss) ports placed);
       few = λ domain. ports-few devices 0 (length ss) domain ss thin (omega arith);
       order = pairs-all InOrder ports (ports-order devices 0 (length ss) ss thin (omega arith));
       names = pairs-all HaveOwnNames ports (ports-names devices 0 (length ss) ss thin (omega arith));
-      kinds = each-weaker (IsPlaced 0 (length ss)) (λ port. port.kind ≡ EventItem) (λ port p. p.kind) ports placed;
+      kinds = each-weaker (IsPlaced 0 (length ss)) IsIntegerPort (λ port p. record { kind = p.kind; type = p.type }) ports placed;
     }
 
 -- domains have their subcomponents' names, which differ

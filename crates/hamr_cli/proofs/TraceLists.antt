@@ -4,7 +4,7 @@ use Rattle.std.specs.Prelude.{All}
 use Rattle.std.proofs.lemmas.Grind.{flat_map-append}
 use Rattle.std.proofs.lemmas.List.{append-nil}
 use Rattle.std.proofs.lemmas.List.Elements.{All-nil, All-cons, All-head, All-tail, All-push}
-use Rattle.arch_model.specs.PortType.{IsPortValue}
+use Rattle.hamr_cli.specs.PortType.{IsPortValue}
 use Rattle.hamr_cli.specs.TraceText.{value_text, further_text, values_text, list_text}
 use Rattle.hamr_cli.specs.TraceWord.{EndsWord}
 use Rattle.hamr_cli.proofs.TraceReading.{OnlyValue, ValuesLeft, ReadsValues}

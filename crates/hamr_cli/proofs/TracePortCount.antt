@@ -60,7 +60,7 @@ few-below (suc m) ports few =
 pub few-ports : (arch : ArchParts) (rows : List Port) → rows ≡ arch.ports → IsWellFormed arch → length rows < 2 ^ 32
 unfolding own
 few-ports arch rows same well =
-    let owned = All-weaker (IsPort arch.pds) (λ (p : Port). p.owner.0 < length arch.pds) (λ p fits. fits.owner) arch.ports well.ports in
+    let owned = All-weaker (IsPort arch.pds arch.types) (λ (p : Port). p.owner.0 < length arch.pds) (λ p fits. fits.owner) arch.ports well.ports in
     let all = below-all (length arch.pds) arch.ports owned in
     let few = few-below (length arch.pds) arch.ports well.few_ports in
     rw same (omega (arith, all, few, well.few_domains))

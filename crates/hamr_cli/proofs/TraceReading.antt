@@ -2,7 +2,7 @@
 use Rattle.std.proofs.Common.{◌≡◌, ℕ, ℤ, ◌<◌, ◌≤◌, ◌+◌, List, ◌∷◌, ◌++◌, length}
 use Rattle.std.specs.Prelude.{All}
 use Rattle.arch_model.specs.declared.parts.ArchParts.{ArchParts}
-use Rattle.arch_model.specs.PortType.{IsPortValue}
+use Rattle.hamr_cli.specs.PortType.{IsPortValue}
 use Rattle.hamr_cli.specs.declared.trace.line.Line.{Line}
 use Rattle.hamr_cli.specs.Trace.{FitsTrace, NoLineBegins}
 use Rattle.hamr_cli.specs.TraceText.{values_text, further_text, line_text, trace_text, value_text}

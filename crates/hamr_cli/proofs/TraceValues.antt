@@ -6,7 +6,7 @@ use Rattle.std.proofs.lemmas.Fmt.{decimal_nonempty}
 use Rattle.std.proofs.lemmas.Int.{ints}
 use Rattle.hw_types.specs.Value.{IsScalarValue}
 use Rattle.hw_types.specs.declared.scalar.Scalar.TheVariants.{I32}
-use Rattle.arch_model.specs.PortType.{IsPortValue}
+use Rattle.hamr_cli.specs.PortType.{IsPortValue}
 use Rattle.hamr_cli.specs.TraceText.{value_text}
 use Rattle.hamr_cli.specs.TraceWord.{is_word_byte, IsWord, EndsWord}
 use Rattle.hamr_cli.proofs.TraceSpots.{decimal-word}

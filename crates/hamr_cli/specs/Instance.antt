@@ -8,7 +8,10 @@ use Rattle.arch_model.specs.declared.id.PortId.{PortId}
 use Rattle.arch_model.specs.declared.pd.Pd.{Pd}
 use Rattle.arch_model.specs.declared.port.Port.{Port}
 use Rattle.arch_model.specs.declared.link.Link.{Link}
+use Rattle.arch_model.specs.declared.origin.Origin.{Origin}
 use Rattle.arch_model.specs.declared.parts.ArchParts.{ArchParts}
+use Rattle.arch_model.specs.BaseTypes.{base_rows}
+use Rattle.hw_text.specs.declared.place.Place.{Place}
 use Rattle.arch_model.specs.declared.role.Role.TheVariants.{Device as device_role}
 use Rattle.arch_model.specs.declared.kind.Kind.TheVariants.{EventItem}
 use Rattle.arch_model.specs.LookUp.{pd_named}
@@ -26,6 +29,23 @@ use Rattle.hamr_cli.specs.Steps.{◌>>=◌}
 abbrev pub domain_of : Subcomponent → Pd
 domain_of s = record { name = s.name; role = device_role; period = 0; upper = 0 }
 
+abbrev first_place : Place
+first_place = record { line = 1; column = 1 }
+
+-- where a device comes from: its package; it has no thread and no contract
+abbrev pub device_origin : List ℕ → Origin
+device_origin name = record {
+  «package» = name;
+  thread = [];
+  at = first_place;
+  has_annex = false;
+  annex = [];
+  annex_at = first_place;
+}
+
+abbrev pub origin_of : List ℕ → Subcomponent → Origin
+origin_of name s = device_origin name
+
 -- Queue_Size, which is 1 where none is written
 abbrev pub size_of : Way → ℕ
 size_of Out = 1
@@ -37,9 +57,13 @@ is_out Out = true
 is_out In = false
 is_out (Queued size) = false
 
+-- the place of Integer_32 among the types
+abbrev pub integer_type : ℕ
+integer_type = 3
+
 -- the port that a feature is in a domain
 abbrev pub port_of : PdId → Feature → Port
-port_of domain f = record { owner = domain; name = f.name; outward = is_out f.way; kind = EventItem; ty = 0; size = size_of f.way; all = false }
+port_of domain f = record { owner = domain; name = f.name; outward = is_out f.way; kind = EventItem; ty = integer_type; size = size_of f.way; all = false }
 
 abbrev pub is_declared : List Device → List ℕ → Bool
 is_declared devices name = list_any (λ device. bytes_eq device.name name) devices
@@ -116,6 +140,16 @@ ports_of m = ports_from m.devices 0 m.subcomponents
 abbrev pub links_named : ThinModel → List Link
 links_named m = filter_map (link_of (domains_of m) (ports_of m)) m.connections
 
--- no frame period is written, so it is 1 ms
+abbrev pub origins_of : ThinModel → List Origin
+origins_of m = map (origin_of m.package_name) m.subcomponents
+
+-- no types are declared; no frame period is written, so it is 1 ms
 abbrev pub instance_of : ThinModel → ArchParts
-instance_of m = record { pds = domains_of m; ports = ports_of m; links = with_links [] (links_named m); frame = 1000000000 }
+instance_of m = record {
+  pds = domains_of m;
+  ports = ports_of m;
+  links = with_links [] (links_named m);
+  types = base_rows;
+  frame = 1000000000;
+  origins = origins_of m;
+}

@@ -15,6 +15,7 @@ pub mod Output
 pub mod Outside
 pub mod Package
 pub mod Parts
+pub mod PortType
 pub mod Reads
 pub mod Status
 pub mod Steps

@@ -3,7 +3,7 @@ use Rattle.std.specs.Prelude.{◌≡◌, ◌≢◌, ◌⊎◌, ℕ, ℤ, Bool, t
 use Rattle.arch_model.specs.declared.parts.ArchParts.{ArchParts}
 use Rattle.arch_model.specs.declared.id.PdId.{PdId}
 use Rattle.arch_model.specs.declared.id.PortId.{PortId}
-use Rattle.arch_model.specs.PortType.{IsPortValue}
+use Rattle.hamr_cli.specs.PortType.{IsPortValue}
 use Rattle.hw_text.specs.Name.{is_name}
 use Rattle.rts_rules.specs.declared.event.What.{What}
 use Rattle.rts_rules.specs.declared.event.What.TheVariants as act

@@ -15,10 +15,10 @@ ghost use Rattle.std.specs.Prelude.{◌≡◌, IfOk, IfSome, Some};
 ghost use Rattle.hamr_cli.specs.Instance.{instance_of};
 ghost use Rattle.hamr_cli.specs.Model.{HasThinShape, IsThinModel};
 
-use crate::thin::instance::{domains, ports_from};
+use crate::thin::instance::{domains, origins, ports_from};
 use crate::thin::links::joined;
 use crate::thin::model::ThinModel;
-use arch_model::{Arch, ArchParts};
+use arch_model::{Arch, ArchParts, base_rows};
 use hw_text::NoMemory;
 use std::alloc::Global;
 
@@ -36,11 +36,15 @@ pub fn instance_of(alloc: Global, model: &ThinModel) -> Result<Option<Arch>, NoM
     let Some(links) = joined(alloc, pds.rows(), ports.rows(), model.connections.rows())? else {
         return Ok(None);
     };
+    let types = base_rows(alloc)?;
+    let origins = origins(alloc, &model.package_name, model.subcomponents.rows())?;
     let parts = ArchParts {
         pds,
         ports,
         links,
+        types,
         frame: DEFAULT_FRAME,
+        origins,
     };
     Ok(Some(Arch::new(alloc, parts)?))
 }

@@ -1,6 +1,7 @@
 pub mod Alignments
 pub mod BytesSteps
 pub mod Cells
+pub mod Extents
 pub mod Meanings
 pub mod Numbers
 pub mod PlaceSteps

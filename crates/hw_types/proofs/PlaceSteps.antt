@@ -1,92 +1,128 @@
--- The loops over a struct's members.
-use Rattle.std.proofs.Common.{◌≡◌, ℕ, ◌+◌, ◌*◌, ◌≤◌, ◌<◌, zero, suc, max, List, [], ◌∷◌, ◌++◌, length, get_or, map, sum, ap, sym, refl, subst, ◌∙◌, append-nil, arith}
-use Rattle.std.proofs.Math.Nat.{max-eq_left, max-eq_right, mul-le-mul_left, mul-le-mul_right}
-use Rattle.hw_types.specs.declared.field_cell.FieldCell.{FieldCell}
+-- Members of a struct, one more at a time.
+use Rattle.std.proofs.Common.{◌≡◌, ℕ, ◌+◌, ◌-◌, ◌*◌, ◌^◌, ◌≤◌, ◌<◌, min, max, List, [], ◌∷◌, ◌++◌, length, map, sum, ap, sym, refl, ◌∙◌, append_assoc, append-nil, arith}
+use Rattle.std.proofs.Math.Nat.{max-eq_left, max-eq_right}
+use Rattle.std.proofs.lemmas.List.{map-append}
 use Rattle.hw_types.specs.declared.members.Members.{Members}
+use Rattle.hw_types.specs.declared.extent.Extent.{Extent}
+use Rattle.hw_types.specs.declared.extent.Extent.TheVariants as extent
+use Rattle.hw_types.specs.declared.extent.Width.{Width}
 use Rattle.hw_types.specs.declared.ty.Ty.{Ty}
-use Rattle.hw_types.specs.declared.ty.Ty.TheVariants.{Fields, Times}
+use Rattle.hw_types.specs.declared.ty.Ty.TheVariants.{Fields}
 use Rattle.hw_types.specs.Count.{scalar_count}
+use Rattle.hw_types.specs.Extent.{AreMembers, IsLayoutOf, IsWidthOf, IsExtentOf, count_in, align_in}
 use Rattle.hw_types.specs.Shape.{Shape, IsAlign, IsLaidOut}
-use Rattle.hw_types.specs.Layout.{shape_of, greatest_align, member_cells, members_end, aligned_up, struct_of}
-use Rattle.hw_types.proofs.Shapes.{AreLaidOut, IsAlign-pos, greatest_align-pos, members_end-ge, same_shape, shape_with}
-use Rattle.hw_types.proofs.Types.{AreSound, AreLaidOut-sound, sound, sum-cons, members_end-le, scalar_count-Fields, scalar_count-Times, shape_of-Fields}
-
-pub align_end : (a : ℕ) (t : Ty) (ts us rest : List Ty) → t ≡ Fields ts → us ≡ ts → rest ≡ [] → IsAlign a →
-    max a (greatest_align (map shape_of rest)) ≡ greatest_align (map shape_of us) → a ≡ (shape_of t).align
-align_end a t ts us rest e f none is value =
-    let last : max a (greatest_align (map shape_of [])) ≡ greatest_align (map shape_of ts) = rw (none, f) at value in
-    rw (e, shape_of-Fields ts) (sym (max-eq_left (IsAlign-pos a is)) ∙ last)
+use Rattle.hw_types.specs.Layout.{shape_of, shifted, begin_of, greatest_align, member_cells, members_end, aligned_up, struct_of}
+use Rattle.hw_types.proofs.Shapes.{IsAlign-pos, shape_with}
+use Rattle.hw_types.proofs.Types.{AreSound, sound, sum-cons, members_end-le, scalar_count-Fields, shape_of-Fields}
+use Rattle.hw_types.proofs.Extents.{extent-count, extent-align, told-sum}
 
 pub AreSound-all : (ts : List Ty) → AreSound ts
 AreSound-all [] = tt
 AreSound-all (t ∷ ts) = (sound t, AreSound-all ts)
 
-pub AreLaidOut-all : (ts : List Ty) → AreLaidOut (map shape_of ts)
-AreLaidOut-all ts = AreLaidOut-sound ts (AreSound-all ts)
+pub sum-push : (ts : List Ty) (t : Ty) → sum (map scalar_count (ts ++ t ∷ [])) ≡ sum (map scalar_count ts) + scalar_count t
+sum-push [] t = omega (arith, sum-cons (scalar_count t) [])
+sum-push (u ∷ ts) t =
+    omega (arith, sum-cons (scalar_count u) (map scalar_count (ts ++ t ∷ [])), sum-cons (scalar_count u) (map scalar_count ts), sum-push ts t)
 
-sum-member : (ts : List Ty) (k : ℕ) (d : Ty) → k < length ts → scalar_count (get_or ts k d) ≤ sum (map scalar_count ts)
-sum-member [] k d h = absurd (omega (arith, h))
-sum-member (t ∷ ts) zero d h = omega (arith, sum-cons (scalar_count t) (map scalar_count ts))
-sum-member (t ∷ ts) (suc k) d h =
-    let less : k < length ts = omega (arith, h) in
-    omega (arith, sum-cons (scalar_count t) (map scalar_count ts), sum-member ts k d less)
+pub cells-push : (end : ℕ) (ms : List Shape) (m : Shape) →
+    member_cells end (ms ++ m ∷ []) ≡ member_cells end ms ++ shifted (begin_of (members_end end ms) m) m.scalars
+cells-push end [] m = append-nil (shifted (begin_of end m) m.scalars)
+cells-push end (n ∷ ms) m =
+    ap (λ cells. shifted (begin_of end n) n.scalars ++ cells) (cells-push (begin_of end n + n.size) ms m)
+    ∙ sym (append_assoc (shifted (begin_of end n) n.scalars) (member_cells (begin_of end n + n.size) ms)
+    (shifted (begin_of (members_end (begin_of end n + n.size) ms) m) m.scalars))
 
-pub count_member : (t : Ty) (ts us : List Ty) (k : ℕ) (x : Ty) → t ≡ Fields ts → us ≡ ts → scalar_count t ≤ 256 → k < length us →
-    x ≡ get_or us k x → scalar_count x ≤ 256
-count_member t ts us k x e f few h is =
-    let count : scalar_count t ≡ sum (map scalar_count us) = rw (e, f) (scalar_count-Fields ts) in
-    let same : scalar_count x ≡ scalar_count (get_or us k x) = ap scalar_count is in
-    omega (arith, count, same, sum-member us k x h)
+pub end-push : (end : ℕ) (ms : List Shape) (m : Shape) →
+    members_end end (ms ++ m ∷ []) ≡ begin_of (members_end end ms) m + m.size
+end-push end [] m = refl
+end-push end (n ∷ ms) m = end-push (begin_of end n + n.size) ms m
 
-pub end_room : (end : ℕ) (t : Ty) (ts us rest : List Ty) → t ≡ Fields ts → us ≡ ts → scalar_count t ≤ 256 →
-    members_end end (map shape_of rest) ≡ members_end 0 (map shape_of us) → end ≤ 2048
-end_room end t ts us rest e f few same =
-    let count : scalar_count t ≡ sum (map scalar_count us) = rw (e, f) (scalar_count-Fields ts) in
-    let room : members_end 0 (map shape_of us) ≤ 8 * (0 + sum (map scalar_count us)) = members_end-le 0 0 us (AreSound-all us) (omega arith) in
-    omega (arith, count, room, same, members_end-ge end (map shape_of rest) (AreLaidOut-all rest))
+pub align-push : (ms : List Shape) (m : Shape) → 1 ≤ m.align → greatest_align (ms ++ m ∷ []) ≡ max (greatest_align ms) m.align
+align-push [] m some = max-eq_left some ∙ sym (max-eq_right some)
+align-push (n ∷ ms) m some = rw (align-push ms m some) (grind arith)
 
-pub size_room : (t : Ty) (m : Shape) → m ≡ shape_of t → scalar_count t ≤ 256 → m.size ≤ 2048
-size_room t m e few = rw e (omega (arith, (sound t).tight))
+-- what a struct of at most 256 scalars has room for
+pub end_room : (types : List Ty) (members : Members) → AreMembers types members → members.count ≤ 256 → members.end ≤ 2048
+end_room types members are few =
+    let total : sum (map scalar_count types) ≤ 256 = told-sum (sum (map scalar_count types)) members.count are.count few in
+    let room : members_end 0 (map shape_of types) ≤ 8 * (0 + sum (map scalar_count types)) = members_end-le 0 0 types (AreSound-all types) (omega arith) in
+    rw (are.end few) (omega (arith, room, total))
 
-pub struct_end : (t : Ty) (ts us rest : List Ty) (cells : List FieldCell) (end align : ℕ) → t ≡ Fields ts → us ≡ ts → rest ≡ [] → 1 ≤ align →
-    cells ++ member_cells end (map shape_of rest) ≡ member_cells 0 (map shape_of us) →
-    members_end end (map shape_of rest) ≡ members_end 0 (map shape_of us) →
-    max align (greatest_align (map shape_of rest)) ≡ greatest_align (map shape_of us) →
-    shape_with cells (aligned_up end align) align ≡ shape_of t
-struct_end t ts us rest cells end align e f none pos p q r =
-    let cells' : cells ++ [] ≡ member_cells 0 (map shape_of ts) = rw (none, f) at p in
-    let end' : end ≡ members_end 0 (map shape_of ts) = rw (none, f) at q in
-    let last : max align 1 ≡ greatest_align (map shape_of ts) = rw (none, f) at r in
-    let align' : align ≡ greatest_align (map shape_of ts) = sym (max-eq_left pos) ∙ last in
-    let size' : aligned_up end align ≡ aligned_up (members_end 0 (map shape_of ts)) (greatest_align (map shape_of ts)) = rw (end', align') refl in
-    let same : shape_with cells (aligned_up end align) align ≡ struct_of (map shape_of ts) =
-    same_shape (shape_with cells (aligned_up end align) align) (struct_of (map shape_of ts)) (sym (append-nil cells) ∙ cells') size' align' in
-    same ∙ sym (ap shape_of e ∙ shape_of-Fields ts)
+pub size_room : (type : Ty) (layout : Shape) → IsLayoutOf type layout → layout.size ≤ 2048
+size_room type layout is = rw is.laid (omega (arith, (sound type).tight, is.few))
 
-pub struct_power : (t : Ty) (cells : List FieldCell) (size align : ℕ) → shape_with cells size align ≡ shape_of t → IsAlign align
-struct_power t cells size align e = let is : IsAlign (shape_of t).align = (sound t).laid_out.power in subst (λ m. IsAlign m.align) (sym e) is
+pub count-push : (types : List Ty) (type : Ty) (members : Members) (member : Extent) (count : ℕ) → AreMembers types members → IsExtentOf type member →
+    count ≡ min (members.count + count_in member) (2 ^ 64 - 1) → count ≡ min (sum (map scalar_count (types ++ type ∷ []))) (2 ^ 64 - 1)
+count-push types type members member count are is counted =
+    let had = are.count in
+    let has = extent-count type member is in
+    let total = sum-push types type in
+    rw (counted, total, had, has) (grind arith)
 
-pub struct_laid_out : (t : Ty) (m : Shape) → m ≡ shape_of t → IsLaidOut m
-struct_laid_out t m e = rw e (sound t).laid_out
+pub align-next : (types : List Ty) (type : Ty) (members : Members) (member : Extent) (align : ℕ) → AreMembers types members → IsExtentOf type member →
+    align ≡ max members.align (align_in member) → align ≡ greatest_align (map shape_of (types ++ type ∷ []))
+align-next types type members member align are is aligned =
+    let one : 1 ≤ (shape_of type).align = IsAlign-pos (shape_of type).align (sound type).laid_out.power in
+    let all : map shape_of (types ++ type ∷ []) ≡ map shape_of types ++ shape_of type ∷ [] = map-append shape_of types (type ∷ []) in
+    rw (all, align-push (map shape_of types) (shape_of type) one, aligned, are.align, extent-align type member is) refl
 
-pub array_room : (t e : Ty) (n : ℕ) (m : Shape) → t ≡ Times e n → m ≡ shape_of e → scalar_count t ≤ 256 → n * m.size < 4294967296
-array_room t e n m is shape few =
-    let tight : n * (shape_of e).size ≤ n * (8 * scalar_count e) = mul-le-mul_left n (sound e).tight in
-    let count : scalar_count t ≡ n * scalar_count e = ap scalar_count is ∙ scalar_count-Times e n in
-    rw shape (omega (arith, tight, count))
+-- a member behind the others
+pub members-placed : (types : List Ty) (type : Ty) (members with : Members) (layout : Shape) → AreMembers types members → IsLayoutOf type layout →
+    with.count ≡ min (members.count + length layout.scalars) (2 ^ 64 - 1) → with.align ≡ max members.align layout.align → with.count ≤ 256 →
+    with.scalars ≡ members.scalars ++ shifted (begin_of members.end layout) layout.scalars →
+    with.end ≡ begin_of members.end layout + layout.size → AreMembers (types ++ type ∷ []) with
+members-placed types type members with layout are is counted aligned few cells end =
+    let all : map shape_of (types ++ type ∷ []) ≡ map shape_of types ++ shape_of type ∷ [] = map-append shape_of types (type ∷ []) in
+    let before : members.count ≤ 256 = grind arith in
+    record {
+      count = count-push types type members (extent.Laid layout) with.count are is counted;
+      align = align-next types type members (extent.Laid layout) with.align are is aligned;
+      scalars = λ h. rw (all, cells-push 0 (map shape_of types) (shape_of type), cells, are.scalars before, are.end before, is.laid) refl;
+      end = λ h. rw (all, end-push 0 (map shape_of types) (shape_of type), end, are.end before, is.laid) refl;
+    }
 
-pub count_element : (t e : Ty) (n : ℕ) → t ≡ Times e n → scalar_count t ≤ 256 → 1 ≤ n → scalar_count e ≤ 256
-count_element t e n is few some =
-    let count : scalar_count t ≡ n * scalar_count e = ap scalar_count is ∙ scalar_count-Times e n in
-    let more : 1 * scalar_count e ≤ n * scalar_count e = mul-le-mul_right (scalar_count e) some in
-    omega (arith, count, more)
+-- a member that makes too many scalars
+pub members-wide : (types : List Ty) (type : Ty) (members with : Members) (member : Extent) → AreMembers types members → IsExtentOf type member →
+    with.count ≡ min (members.count + count_in member) (2 ^ 64 - 1) → with.align ≡ max members.align (align_in member) → (with.count ≤ 256 → ⊥) →
+    AreMembers (types ++ type ∷ []) with
+members-wide types type members with member are is counted aligned many = record {
+  count = count-push types type members member with.count are is counted;
+  align = align-next types type members member with.align are is aligned;
+  scalars = λ h. absurd (many h);
+  end = λ h. absurd (many h);
+}
 
-pub few_scalars : (t : Ty) (m : Shape) → m ≡ shape_of t → scalar_count t ≤ 256 → length m.scalars ≤ 256
-few_scalars t m e few = rw e (omega (arith, (sound t).counted))
+-- the struct of all members
+pub struct-laid : (types : List Ty) (members : Members) (layout : Shape) → AreMembers types members → members.count ≤ 256 →
+    layout ≡ shape_with members.scalars (aligned_up members.end members.align) members.align → IsLayoutOf (Fields types) layout
+struct-laid types members layout are few is =
+    let total : sum (map scalar_count types) ≤ 256 = told-sum (sum (map scalar_count types)) members.count are.count few in
+    let same : layout ≡ struct_of (map shape_of types) = rw (is, are.scalars few, are.end few, are.align) refl in
+    record { few = rw (scalar_count-Fields types) total; laid = same ∙ sym (shape_of-Fields types) }
 
--- a struct without members yet
-pub members_begin : (m : Members) (ts : List Ty) → m ≡ record { scalars = []; end = 0; align = 1 } →
-    (1 ≤ m.align) × (m.scalars ++ member_cells m.end (map shape_of ts) ≡ member_cells 0 (map shape_of ts)) ×
-    (members_end m.end (map shape_of ts) ≡ members_end 0 (map shape_of ts)) ×
-    (max m.align (greatest_align (map shape_of ts)) ≡ greatest_align (map shape_of ts))
-members_begin m ts e = rw e (omega arith, refl, refl, max-eq_right (greatest_align-pos (map shape_of ts)))
+pub struct-power : (types : List Ty) (members : Members) → AreMembers types members → IsAlign members.align
+struct-power types members are =
+    let is : IsAlign (shape_of (Fields types)).align = (sound (Fields types)).laid_out.power in
+    rw (are.align, ap (λ (m : Shape). m.align) (sym (shape_of-Fields types))) is
+
+pub struct-laid_out : (types : List Ty) (members : Members) (layout : Shape) → AreMembers types members → members.count ≤ 256 →
+    layout ≡ shape_with members.scalars (aligned_up members.end members.align) members.align → IsLaidOut layout
+struct-laid_out types members layout are few is = rw (struct-laid types members layout are few is).laid (sound (Fields types)).laid_out
+
+pub wide-many : (type : Ty) (width : Width) (had count : ℕ) → IsWidthOf type width → count ≡ min (had + width.count) (2 ^ 64 - 1) → count ≤ 256 → ⊥
+wide-many type width had count is counted few =
+    let many = is.many in
+    let told = is.count in
+    grind arith
+
+pub struct-wide : (types : List Ty) (members : Members) (width : Width) → AreMembers types members → 256 < members.count →
+    width.count ≡ members.count → width.align ≡ members.align → IsWidthOf (Fields types) width
+struct-wide types members width are many counted aligned =
+    let whole = scalar_count-Fields types in
+    let had = are.count in
+    record {
+      many = rw whole (grind arith);
+      count = rw (counted, had, whole) refl;
+      align = rw (aligned, are.align, shape_of-Fields types) refl;
+    }

@@ -1,4 +1,6 @@
+pub mod CWords
 pub mod Count
+pub mod Extent
 pub mod Fault
 pub mod Layout
 pub mod Scalar

@@ -1,8 +1,7 @@
 //! Where a scalar lies.
 
 use crate::Scalar;
-use hw_text::{Duplicate, NoMemory, Rows};
-use std::alloc::Global;
+use hw_text::Rows;
 
 /// A scalar of a value, and where it begins in the value's bytes.
 #[derive(Clone, Copy, Debug, PartialEq, Eq)]
@@ -13,9 +12,3 @@ pub struct FieldCell {
 
 /// Scalars in the order of their offsets.
 pub type FieldCellList = Rows<FieldCell>;
-
-impl Duplicate for FieldCell {
-    fn duplicate(&self, _alloc: Global) -> Result<Self, NoMemory> {
-        Ok(*self)
-    }
-}

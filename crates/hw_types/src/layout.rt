@@ -5,8 +5,8 @@ ghost use Rattle.hw_types.specs.Layout.{shifted, scalar_shape, empty_shape, arra
 ghost use Rattle.hw_types.specs.Shape.{IsLaidOut, IsAlign};
 ghost use Rattle.hw_types.specs.Value.{IsValueOf};
 
-use crate::{FieldCell, FieldCellList, Scalar};
-use hw_text::{Duplicate, NoMemory};
+use crate::{Copied, FieldCell, FieldCellList, Scalar};
+use hw_text::NoMemory;
 use std::alloc::Global;
 use std::marker::Model;
 
@@ -74,7 +74,7 @@ impl Layout {
         ensures { IfOk result (λ copy. copy ≡ self.now) }
     {
         Ok(Layout {
-            scalars: self.scalars.duplicate(self.scalars.allocator())?,
+            scalars: self.scalars.copy()?,
             size: self.size,
             align: self.align,
         })
@@ -103,7 +103,15 @@ impl Layout {
         }
     }
 
-    pub(crate) fn of_scalar(alloc: Global, scalar: Scalar) -> Result<Layout, NoMemory>
+    /// The layout of the type without a value.
+    pub fn nothing(alloc: Global) -> Layout
+        ensures { result ≡ empty_shape 1 }
+    {
+        Layout::empty(alloc, 1)
+    }
+
+    /// The layout of a scalar.
+    pub fn of_scalar(alloc: Global, scalar: Scalar) -> Result<Layout, NoMemory>
         ensures { IfOk result (λ layout. layout ≡ scalar_shape scalar) }
     {
         let mut scalars = FieldCellList::new(alloc);
@@ -116,12 +124,12 @@ impl Layout {
     }
 
     /// The layout of an array of so many elements of this one.
-    pub(crate) fn repeated(self, alloc: Global, times: u32) -> Result<Layout, NoMemory>
-        requires { times * self.size < 2 ^ 32 }
-        ensures { IfOk result (λ layout. layout ≡ array_of self times) }
+    pub(crate) fn repeated(&self, alloc: Global, times: u32) -> Result<Layout, NoMemory>
+        requires { times * self.now.size < 2 ^ 32 }
+        ensures { IfOk result (λ layout. layout ≡ array_of self.now times) }
     {
         if self.size() == 0 {
-            return Ok(self);
+            return Ok(self.copy()?);
         }
         let mut scalars = FieldCellList::new(alloc);
         for index in 0..times {

@@ -13,7 +13,7 @@ use Rattle.arch_model.specs.declared.link.Link.{Link}
 use Rattle.arch_model.specs.declared.port.Port.{Port}
 use Rattle.arch_model.specs.LookUp.{receivers_of}
 use Rattle.rts_rules.specs.Services.{Queue, Services, appended, emptied, IsStateOf}
-use Rattle.rts_rules.specs.Step.{changed_from, is_among, released, received, with_queues}
+use Rattle.rts_rules.specs.Left.{changed_from, is_among, released, received}
 
 -- tests that agree from this place on change the same queues
 pub changed_from-same : (place : ℕ) (p q : ℕ → Bool) (change : Queue → Queue) (queues : List Queue) →
@@ -164,11 +164,11 @@ rooms-received port queues = room-changed_from 0 (λ place. port.0 == place) emp
 
 -- a state keeps to its architecture
 pub kept-released : (arch : ArchParts) (state new : Services) (ports : List PortId) (value : List ℤ) →
-    new ≡ with_queues (released ports value state.queues) → IsStateOf arch state → IsStateOf arch new
+    new ≡ record state { queues = released ports value state.queues } → IsStateOf arch state → IsStateOf arch new
 kept-released arch state new ports value is kept = rw is (rooms-released ports value state.queues ∙ kept)
 
 pub kept-received : (arch : ArchParts) (state new : Services) (port : PortId) →
-    new ≡ with_queues (received port state.queues) → IsStateOf arch state → IsStateOf arch new
+    new ≡ record state { queues = received port state.queues } → IsStateOf arch state → IsStateOf arch new
 kept-received arch state new port is kept = rw is (rooms-received port state.queues ∙ kept)
 
 -- there are as many queues as ports

@@ -1,4 +1,5 @@
 pub mod Fault
+pub mod Left
 pub mod Rule
 pub mod Run
 pub mod Services

@@ -5,7 +5,8 @@ use Rattle.rts_rules.specs.declared.event.Event.{Event}
 use Rattle.rts_rules.specs.declared.rule.Rule.{Rule}
 use Rattle.rts_rules.specs.Rule.{rule_of}
 use Rattle.rts_rules.specs.Services.{Services, start_of}
-use Rattle.rts_rules.specs.Step.{IsAllowed, after}
+use Rattle.rts_rules.specs.Left.{after}
+use Rattle.rts_rules.specs.Step.{IsAllowed}
 
 -- each event is allowed where those before it lead
 abbrev pub AreAllowed : ArchParts → Services → List Event → Type 0

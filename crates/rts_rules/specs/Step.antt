@@ -1,17 +1,17 @@
 -- The service step: which event is allowed, and the state that it leaves
 -- (this project's own, after the run-time services of AADL). So far devices alone have rules.
-use Rattle.std.specs.Prelude.{◌≡◌, ℕ, ℤ, true, false, Bool, ◌+◌, ◌==◌, ◌<◌, List, [], ◌∷◌, length, IsSomeAnd, slice_get, if◌then◌else◌}
+use Rattle.std.specs.Prelude.{◌≡◌, ℤ, true, false, Bool, ◌==◌, ◌<◌, List, length, IsSomeAnd, slice_get}
 use Rattle.std.specs.List.{list_any}
 use Rattle.arch_model.specs.declared.parts.ArchParts.{ArchParts}
 use Rattle.arch_model.specs.declared.id.PdId.{PdId}
 use Rattle.arch_model.specs.declared.id.PortId.{PortId}
-use Rattle.arch_model.specs.declared.role.Role.TheVariants.{Device}
-use Rattle.arch_model.specs.LookUp.{receivers_of}
-use Rattle.arch_model.specs.PortType.{IsPortValue}
+use Rattle.arch_model.specs.declared.role.Role.{Role}
+use Rattle.arch_model.specs.declared.role.Role.TheVariants.{Device, Periodic, Sporadic}
+use Rattle.arch_model.specs.Values.{IsPortValue}
 use Rattle.rts_rules.specs.declared.event.Event.{Event}
 use Rattle.rts_rules.specs.declared.event.What.{What}
 use Rattle.rts_rules.specs.declared.event.What.TheVariants as what
-use Rattle.rts_rules.specs.Services.{Queue, Services, appended, emptied}
+use Rattle.rts_rules.specs.Services.{Services}
 
 -- the domain is there and is a device
 abbrev pub IsDevice : ArchParts → PdId → Type 0
@@ -23,80 +23,72 @@ IsPortOf arch who outward port =
     IsSomeAnd (slice_get arch.ports port.0) (λ p. (p.owner.0 ≡ who.0) × (p.outward ≡ outward))
 
 -- a link ends at the port
-abbrev pub is_connected : ArchParts → PortId → Bool
-is_connected arch port = list_any (λ link. link.to.0 == port.0) arch.links
+abbrev pub has_sender : ArchParts → PortId → Bool
+has_sender arch port = list_any (λ link. link.to.0 == port.0) arch.links
+
+-- a link begins at the port
+abbrev pub has_receiver : ArchParts → PortId → Bool
+has_receiver arch port = list_any (λ link. link.from.0 == port.0) arch.links
 
 -- just these items wait at the port
 abbrev pub Waits : Services → PortId → List (List ℤ) → Type 0
 Waits state port items = IsSomeAnd (slice_get state.queues port.0) (λ queue. items ≡ queue.items)
 
--- a device may release any value of the type through any of its out ports
+-- a device may release any value of the port's type through any of its out ports
 pub record IsReleaseOfDevice (arch : ArchParts) (who : PdId) (port : PortId) (value : List ℤ) : Type 0 where
-  pub device : IsDevice arch who
   pub own : IsPortOf arch who true port
-  pub typed : IsPortValue value
+  pub typed : IsPortValue arch port value
 
--- a device receives all that waits at a connected in port
+-- a device receives all that waits at an in port that has a sender
 pub record IsReceiveOfDevice (arch : ArchParts) (state : Services) (who : PdId) (port : PortId) (items : List (List ℤ)) : Type 0 where
-  pub device : IsDevice arch who
   pub own : IsPortOf arch who false port
-  pub connected : is_connected arch port ≡ true
+  pub sent : has_sender arch port ≡ true
   pub all : Waits state port items
+
+-- a rule of devices allows the domain to do this
+abbrev pub DeviceAllows : ArchParts → Services → PdId → What → Type 0
+DeviceAllows arch state who what.Tick = ⊥
+DeviceAllows arch state who what.Init = ⊥
+DeviceAllows arch state who what.Begin = ⊥
+DeviceAllows arch state who what.Void = ⊥
+DeviceAllows arch state who what.Compute = ⊥
+DeviceAllows arch state who what.Send = ⊥
+DeviceAllows arch state who what.End = ⊥
+DeviceAllows arch state who (what.Receive port items) = IsReceiveOfDevice arch state who port items
+DeviceAllows arch state who (what.Put port value) = ⊥
+DeviceAllows arch state who (what.Release port value) = IsReleaseOfDevice arch who port value
+DeviceAllows arch state who (what.Verdict clause holds) = ⊥
+
+-- a rule of threads allows the domain to do this; threads have no rules yet
+abbrev pub ThreadAllows : ArchParts → Services → PdId → What → Type 0
+ThreadAllows arch state who what = ⊥
+
+-- the rules of what the domain is
+abbrev pub AllowsAs : ArchParts → Services → PdId → What → Role → Type 0
+AllowsAs arch state who what Device = DeviceAllows arch state who what
+AllowsAs arch state who what Periodic = ThreadAllows arch state who what
+AllowsAs arch state who what Sporadic = ThreadAllows arch state who what
 
 -- a rule allows the domain to do this
 abbrev pub Allows : ArchParts → Services → PdId → What → Type 0
-Allows arch state who what.Tick = ⊥
-Allows arch state who what.Init = ⊥
-Allows arch state who what.Begin = ⊥
-Allows arch state who what.Void = ⊥
-Allows arch state who what.Compute = ⊥
-Allows arch state who what.Send = ⊥
-Allows arch state who what.End = ⊥
-Allows arch state who (what.Receive port items) = IsReceiveOfDevice arch state who port items
-Allows arch state who (what.Put port value) = ⊥
-Allows arch state who (what.Release port value) = IsReleaseOfDevice arch who port value
-Allows arch state who (what.Verdict clause holds) = ⊥
+Allows arch state who what = IsSomeAnd (slice_get arch.pds who.0) (λ pd. AllowsAs arch state who what pd.role)
 
 abbrev pub IsAllowed : ArchParts → Services → Event → Type 0
 IsAllowed arch state event = Allows arch state event.who event.what
 
--- the port is one of these
-abbrev pub is_among : List PortId → ℕ → Bool
-is_among ports place = list_any (λ port. port.0 == place) ports
-
--- the queues from this place on, changed where the place passes the test
-abbrev pub changed_from : ℕ → (ℕ → Bool) → (Queue → Queue) → List Queue → List Queue
-changed_from place passes change [] = []
-changed_from place passes change (queue ∷ queues) =
-    (if passes place then change queue else queue) ∷ changed_from (place + 1) passes change queues
-
--- the value is appended at each of these ports
-unfoldable pub released : List PortId → List ℤ → List Queue → List Queue
-released ports value queues = changed_from 0 (is_among ports) (λ queue. appended queue value) queues
-
--- the port's queue is emptied
-unfoldable pub received : PortId → List Queue → List Queue
-received port queues = changed_from 0 (λ place. port.0 == place) emptied queues
-
-abbrev pub with_queues : List Queue → Services
-with_queues queues = record { queues = queues }
-
--- what the act of a domain leaves
-abbrev pub left_by : ArchParts → Services → What → Services
-left_by arch state what.Tick = state
-left_by arch state what.Init = state
-left_by arch state what.Begin = state
-left_by arch state what.Void = state
-left_by arch state what.Compute = state
-left_by arch state what.Send = state
-left_by arch state what.End = state
-left_by arch state (what.Receive port items) = with_queues (received port state.queues)
-left_by arch state (what.Put port value) = state
-left_by arch state (what.Release port value) = with_queues (released (receivers_of arch.links port) value state.queues)
-left_by arch state (what.Verdict clause holds) = state
-
-abbrev pub after : ArchParts → Services → Event → Services
-after arch state event = left_by arch state event.what
+-- only a release at a port that has a receiver wants memory
+abbrev pub WantsMemory : ArchParts → What → Type 0
+WantsMemory arch what.Tick = ⊥
+WantsMemory arch what.Init = ⊥
+WantsMemory arch what.Begin = ⊥
+WantsMemory arch what.Void = ⊥
+WantsMemory arch what.Compute = ⊥
+WantsMemory arch what.Send = ⊥
+WantsMemory arch what.End = ⊥
+WantsMemory arch (what.Receive port items) = ⊥
+WantsMemory arch (what.Put port value) = ⊥
+WantsMemory arch (what.Release port value) = has_receiver arch port ≡ true
+WantsMemory arch (what.Verdict clause holds) = ⊥
 
 -- the domain and the ports that an event names are there
 abbrev pub NamesPorts : ArchParts → What → Type 0

@@ -1,9 +1,10 @@
 //! Tests of values.
 
-ghost use Rattle.std.specs.Prelude.{◌≡◌, ◌↔◌, IsTrue};
-ghost use Rattle.arch_model.specs.PortType.{IsPortValue};
+ghost use Rattle.std.specs.Prelude.{◌≡◌, ◌↔◌, ◌<◌, IsTrue, length};
+ghost use Rattle.arch_model.specs.Values.{IsPortValue};
 
-use hw_types::{Scalar, Value};
+use arch_model::{Arch, PortId};
+use hw_types::Value;
 
 /// Whether two lists have the same values.
 pub fn same_values(one: &[Value], other: &[Value]) -> bool
@@ -26,12 +27,12 @@ fn same_value(one: &Value, other: &Value) -> bool
     one.rows() == other.rows()
 }
 
-/// Whether ports carry a value.
-pub fn is_port_value(value: &Value) -> bool
-    ensures { IsTrue result ↔ IsPortValue value.now }
+/// Whether the value is one that the port carries.
+pub fn is_value_of_port(arch: &Arch, port: PortId, value: &Value) -> bool
+    requires { port.0 < length arch.now.ports }
+    ensures { IsTrue result ↔ IsPortValue arch.now port value.now }
 {
-    match value.rows() {
-        [number] => Scalar::I32.holds(*number),
-        _ => false,
-    }
+    let port = &arch.ports()[port.0 as usize];
+    let row = &arch.types()[port.ty as usize];
+    row.layout.holds(value.rows())
 }

@@ -1,14 +1,17 @@
 //! The domains and ports of a model's instance.
 
 ghost use Rattle.std.specs.Prelude.{◌≡◌, ◌≤◌, ◌<◌, ◌^◌, ◌++◌, length, map, IfOk, OnOk};
-ghost use Rattle.hamr_cli.specs.Instance.{domain_of, size_of, is_out, port_of, is_declared, features_named, ports_from};
+ghost use Rattle.hamr_cli.specs.Instance.{domain_of, size_of, is_out, port_of, is_declared, features_named, ports_from, origin_of, device_origin};
 
 use crate::thin::device::Device;
 use crate::thin::feature::{Feature, Way};
 use crate::thin::subcomponent::Subcomponent;
-use arch_model::{Kind, Pd, PdId, PdList, Port, PortList, Role};
-use hw_text::{NoMemory, Rows};
+use arch_model::{Kind, Origin, OriginList, Pd, PdId, PdList, Port, PortList, Role};
+use hw_text::{ByteList, Name, NoMemory, Place, Rows, TextBuf};
 use std::alloc::Global;
+
+/// The place of Integer_32 among the types.
+const INTEGER_TYPE: u32 = 3;
 
 /// The domains that these subcomponents are.
 pub fn domains(alloc: Global, subcomponents: &[Subcomponent]) -> Result<PdList, NoMemory>
@@ -29,6 +32,37 @@ fn domain(subcomponent: &Subcomponent) -> Result<Pd, NoMemory>
         role: Role::Device,
         period: 0,
         upper: 0,
+    })
+}
+
+/// Where these subcomponents come from.
+pub fn origins(
+    alloc: Global,
+    package_name: &Name,
+    subcomponents: &[Subcomponent],
+) -> Result<OriginList, NoMemory>
+    ensures { IfOk result (λ origins. origins ≡ map (origin_of package_name.now) subcomponents.now) }
+{
+    let mut origins = Rows::new(alloc);
+    for _subcomponent in subcomponents {
+        origins.push(origin(alloc, package_name)?)?;
+    }
+    Ok(origins)
+}
+
+/// Where a device comes from.
+fn origin(alloc: Global, package_name: &Name) -> Result<Origin, NoMemory>
+    ensures { IfOk result (λ origin. origin ≡ device_origin package_name.now) }
+{
+    let mut name = TextBuf::new(alloc);
+    name.word(package_name.rows())?;
+    Ok(Origin {
+        package: name,
+        thread: TextBuf::new(alloc),
+        at: Place::START,
+        has_annex: false,
+        annex: ByteList::new(alloc),
+        annex_at: Place::START,
     })
 }
 
@@ -69,7 +103,7 @@ fn port(domain: PdId, feature: &Feature) -> Result<Port, NoMemory>
         name: feature.name.copy()?,
         outward: is_out(feature.way),
         kind: Kind::EventItem,
-        ty: 0,
+        ty: INTEGER_TYPE,
         size: size_of(feature.way),
         all: false,
     })

@@ -1,7 +1,7 @@
 //! The values of a trace.
 
 ghost use Rattle.std.specs.Prelude.{◌≡◌, ◌≤◌, ◌++◌, ◌∷◌, [], ℕ, ℤ, List, IfOk, IfSome, IsSomeAnd, MatchResult, All};
-ghost use Rattle.arch_model.specs.PortType.{IsPortValue};
+ghost use Rattle.hamr_cli.specs.PortType.{IsPortValue};
 ghost use Rattle.hamr_cli.specs.TraceFault.{IsMemory};
 ghost use Rattle.hamr_cli.specs.TraceText.{value_text, values_text, list_text};
 ghost use Rattle.hamr_cli.specs.TraceWord.{EndsWord};

@@ -1,9 +1,8 @@
-use Rattle.std.proofs.Common.{◌≤◌, arith}
-use Rattle.hw_types.specs.Count.{scalar_count}
-use Rattle.hw_types.proofs.PlaceSteps.{few_scalars}
+use Rattle.std.proofs.Common.{subst}
+use Rattle.hw_types.specs.Extent.{IsExtentOf}
+use Rattle.hw_types.proofs.Extents.{few-scalars}
 use Rattle.hw_types.proofs.place.layout_of.Goals as goal
 
-pub returns-clause-few : goal.returns-clause-few
-returns-clause-few c =
-    let few : scalar_count c.args.ty.now ≤ 256 = omega arith in
-    few_scalars c.args.ty.now c.in_ok-place.field-0 c.in_ok-place.ensures few
+pub returns-in-Laid-clause-few : goal.returns-in-Laid-clause-few
+returns-in-Laid-clause-few c =
+    few-scalars c.args.ty.now c.in-Laid.layout (subst (λ e. IsExtentOf c.args.ty.now e) c.in-Laid.is c.in_ok-layout.ensures)

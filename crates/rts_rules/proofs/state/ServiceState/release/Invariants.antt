@@ -1,7 +1,7 @@
 use Rattle.std.proofs.Common.{◌≡◌, ◌++◌, length, replicate}
 use Rattle.arch_model.specs.LookUp.{receivers_of}
 use Rattle.arch_model.specs.Receivers.{receivers_left}
-use Rattle.rts_rules.specs.Step.{released}
+use Rattle.rts_rules.specs.Left.{released}
 use Rattle.rts_rules.proofs.state.ServiceState.release.Given as goal
 
 abbrev pub invariant-loop-receiver : goal.invariant-loop-receiver
