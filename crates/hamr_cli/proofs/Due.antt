@@ -1,6 +1,11 @@
 -- From what is told of a command to its answer.
 use Rattle.std.proofs.Common.{◌≡◌, ◌≢◌, ℕ, ◌≤◌, true, List, [], length, Option, Some, None, Result, Ok, Err, IfOk, refl, sym, ◌∙◌, subst, arith, inl, inr, slice_get}
 use Rattle.hw_io.specs.Meaning.{StoreMeaning, SinkMeaning}
+use Rattle.hw_text.specs.declared.document.Document.{Document}
+use Rattle.hw_text.specs.declared.document.Document.TheVariants as document
+use Rattle.hw_text.specs.declared.refusal.Refusal.{Refusal}
+use Rattle.hw_text.specs.Code.{document_of}
+use Rattle.hamr_cli.specs.Cause.{report_of, refused, status_of_document}
 use Rattle.hamr_cli.specs.declared.report.Report.{Report}
 use Rattle.hamr_cli.specs.declared.files.Stop.{Stop}
 use Rattle.hamr_cli.specs.declared.files.Stop.TheVariants as stop
@@ -14,14 +19,6 @@ use Rattle.hamr_cli.specs.Output.{Output, Gives, PrintsAlone}
 use Rattle.hamr_cli.specs.Reads.{Names, IsTold, IsTurnOf}
 use Rattle.hamr_cli.specs.Status.{IsOfContent}
 use Rattle.hamr_cli.specs.Stop.{OnStopped, OnTold, IsToldAs, IsUnread}
-
--- what is due of what is told is the command's answer
-pub told_answer : (command : Command) (before after : Outside) (told : Result Report Stop) (answer : Status) →
-    OnTold told (λ report. IsDue command before.store after.store report) → IsToldAs told before.sink after.sink answer →
-    HoldsTheSame before.store after.store → IsAnswerOf command before after answer
-told_answer command before after (Ok report) answer due printed kept = inl (record { report = report; due = due; printed = printed })
-told_answer command before after (Err (stop.Told report)) answer due printed kept = inl (record { report = report; due = due; printed = printed })
-told_answer command before after (Err stop.NoMemory) answer due printed kept = inr (inl (record { answered = printed.0; nothing = printed.1; left = kept }))
 
 -- a command that reads a file has its output over stores that tell
 pub told_store : (store : StoreMeaning) (command : Command) (file : List ℕ) → Names command file → IsTold store command → store.tells ≡ true
@@ -65,11 +62,6 @@ unread_due command before after file report turn kept (inr failed) = inr (inr (i
   left = kept;
 })))
 
-pub stopped_due : {X : Type 0} (command : Command) (before after : StoreMeaning) (file : List ℕ) (s : Stop) → IsTurnOf before command file → HoldsTheSame before after →
-    OnStopped {X = X} (Err s) (λ report. IsUnread before after file report) → OnTold (Err s) (λ report. IsDue command before after report)
-stopped_due command before after file (stop.Told report) turn kept unread = unread_due command before after file report turn kept unread
-stopped_due command before after file stop.NoMemory turn kept unread = tt
-
 -- what was not read behind other reads was not read in the whole
 pub unread_earlier : (before between after : StoreMeaning) (file : List ℕ) (report : Report) → IsOnlyRead before between →
     IsUnread between after file report → IsUnread before after file report
@@ -82,3 +74,14 @@ unread_earlier before between after file report read (inr failed) = inr (record 
   rose = λ below. omega (arith, read.read_faults file, failed.rose (omega (arith)));
   told = failed.told;
 })
+
+-- a refused text has a status that contents decide
+document_content : (d : Document) → IsOfContent (status_of_document d)
+document_content document.Model = inr (inr (inl refl))
+document_content document.Contract = inr (inr (inl refl))
+document_content document.UserCode = inr (inr (inr (inl refl)))
+document_content document.Trace = inr (inr (inr (inr refl)))
+document_content document.RunFile = inr (inr (inr (inr refl)))
+
+pub refused_content : (file : List ℕ) (refusal : Refusal) (report : Report) → report ≡ report_of (refused file refusal) → IsOfContent report.status
+refused_content file refusal report told = subst (λ (r : Report). IsOfContent r.status) (sym told) (document_content (document_of refusal.code))

@@ -5,6 +5,8 @@ use Rattle.aadl_tree.specs.declared.package.Package.{Package}
 use Rattle.arch_model.specs.declared.parts.ArchParts.{ArchParts}
 use Rattle.hw_text.specs.declared.no_memory.NoMemory.{NoMemory}
 use Rattle.hamr_cli.specs.declared.files.Stop.{Stop}
+use Rattle.hamr_cli.specs.declared.files.Stop.TheVariants as stop
+use Rattle.hamr_cli.specs.Stop.{OnStopped, OnTold}
 use Rattle.hamr_cli.specs.declared.judgement.Judgement.{Judgement}
 use Rattle.hamr_cli.specs.declared.judgement.Judgement.TheVariants as judgement
 use Rattle.hamr_cli.specs.declared.trace.fault.TraceFault.{TraceFault}
@@ -34,9 +36,19 @@ judged-by held tree trace (judgement.BadLine number) by = by
 judged-by held tree trace judgement.Legal by = by
 judged-by held tree trace (judgement.Illegal number rule) by = by
 
-pub report-map : (answer : Result Report Stop) (P Q : Report → Type 0) → ((report : Report) → P report → Q report) → IfOk answer P → IfOk answer Q
-report-map (Ok report) P Q each told = each report told
-report-map (Err stop) P Q each told = tt
+-- what holds of a command's own report, and what of a report in its place, is a fact of what is told
+pub told-by : (told : Result Report Stop) (Due Content Given Unread Thin : Report → Type 0) →
+    IfOk told Content → IfOk told Given → OnStopped told Unread → OnStopped told Thin →
+    ((report : Report) → Content report → Given report → Due report) → ((report : Report) → Unread report → Thin report → Due report) → OnTold told Due
+told-by (Ok report) Due Content Given Unread Thin content given unread thin own other = own report content given
+told-by (Err (stop.Told report)) Due Content Given Unread Thin content given unread thin own other = other report unread thin
+told-by (Err stop.NoMemory) Due Content Given Unread Thin content given unread thin own other = tt
+
+-- a fact of every report is one of what is told in the place of a result
+pub OnStopped-all : {X : Type 0} (answer : Result X Stop) (Q : Report → Type 0) → ((report : Report) → Q report) → OnStopped answer Q
+OnStopped-all (Ok x) Q each = tt
+OnStopped-all (Err (stop.Told report)) Q each = each report
+OnStopped-all (Err stop.NoMemory) Q each = tt
 
 -- what is told of files that were held before
 judged-earlier : (held after : List ℕ → Option (List ℕ)) (tree : Package) (trace : List ℕ) (found : Judgement) → ((name : List ℕ) → after name ≡ held name) → IsJudgedBy after tree trace found → IsJudgedBy held tree trace found

@@ -13,6 +13,7 @@ named_by (name ∷ model ∷ trace ∷ []) = if bytes_eq name (codes "judge") th
 named_by (name ∷ model ∷ trace ∷ more ∷ others) = None
 
 is_named : (command : Command) → named_by (name_of command ∷ arguments_of command) ≡ Some command
+unfolding named_by
 is_named (judge model trace) = refl
 is_named (tidy model) = refl
 

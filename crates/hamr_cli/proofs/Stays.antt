@@ -1,5 +1,5 @@
 -- What `tidy` printed is left as it is.
-use Rattle.std.proofs.Common.{◌≡◌, ℕ, List, Option, Some, sym, ap, ◌∙◌, subst, inl, inr}
+use Rattle.std.proofs.Common.{◌≡◌, ℕ, List, Option, Some, refl, sym, ap, ◌∙◌, subst, inl, inr}
 use Rattle.std.proofs.lemmas.Option.{same_Some}
 use Rattle.hw_text.specs.WholeTexts.{IsTextOf}
 use Rattle.aadl_tree.specs.declared.package.Package.{Package}

@@ -17,7 +17,7 @@ pub record Serves (before after : Outside) (command : Command) : Type 0 where
   pub held : (file : List ℕ) → Reads before.store.held command file → IsSome (before.store.held file)
   pub readable : (file : List ℕ) → Reads before.store.held command file → ReadFailed before.store after.store file → ⊥
   pub writable : (output : Output) (place : ℕ) (file : File) → Gives before.store.held command output →
-    slice_get output.files place ≡ Some file → WriteFailed before.store after.store file.name → ⊥
+      slice_get output.files place ≡ Some file → WriteFailed before.store after.store file.name → ⊥
   pub printable : SinkFailed before.sink after.sink → ⊥
 
 -- the output of the command is printed, and its files are written

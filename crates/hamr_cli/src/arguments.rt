@@ -1,9 +1,7 @@
 //! The words of a command line, from the arguments of the process.
 
-ghost use Rattle.std.specs.Prelude.{◌≡◌, drop, map, IfOk};
-ghost use Rattle.std.specs.String.{string_bytes};
-ghost use Rattle.std.specs.Vec.Iter.{into_iter_items};
-ghost use Rattle.hamr_cli.specs.Arguments.{AreWords, AnswersArguments};
+ghost use Rattle.std.specs.Prelude.{IfOk};
+ghost use Rattle.hamr_cli.specs.Arguments.{AreBehindTheName, AreWords, AnswersArguments};
 ghost use Rattle.hamr_cli.specs.Outside.{outside};
 
 use crate::{Status, hamr};
@@ -42,13 +40,15 @@ fn words_of(alloc: Global, args: io::Result<Args>) -> Result<WordList, NoMemory>
 
 /// All arguments but the first.
 fn words_behind_the_name(alloc: Global, args: Args) -> Result<WordList, NoMemory>
-    ensures { IfOk result (λ words. words ≡ map string_bytes (drop 1 (into_iter_items args))) }
+    ensures { IfOk result (λ words. AreBehindTheName args words) }
 {
     let mut words = WordList::new(alloc);
-    let mut args = args;
-    let _name = args.next();
+    let mut is_name = true;
     for word in args {
-        words.push(word.as_bytes())?;
+        if !is_name {
+            words.push(word.as_bytes())?;
+        }
+        is_name = false;
     }
     Ok(words)
 }

@@ -21,8 +21,7 @@ mod top;
 mod trace;
 mod verdict;
 
-use report::Report;
-
 pub use arguments::answer;
+use report::Report;
 pub use status::Status;
 pub use top::hamr;

@@ -10,7 +10,7 @@ ghost use Rattle.hamr_cli.specs.Status.{IsRefusal, IsWordsOrNothing};
 
 use crate::Status;
 use crate::command::Command;
-use crate::outputs::{run_judge, run_tidy, run_no_row};
+use crate::outputs::{run_judge, run_no_row, run_tidy};
 use crate::printing::print_told;
 use hw_io::{Sink, Store};
 use hw_text::WordList;
@@ -54,12 +54,7 @@ fn perform<S: Store, O: Sink>(alloc: Global, words: &WordList, store: &mut S, ou
 }
 
 /// Does what the command asks for.
-fn run<S: Store, O: Sink>(
-    alloc: Global,
-    command: Command<'_>,
-    store: &mut S,
-    out: &mut O,
-) -> Status
+fn run<S: Store, O: Sink>(alloc: Global, command: Command<'_>, store: &mut S, out: &mut O) -> Status
     ensures answer { IsAnswerOf (asked command.entry)
         (outside (S.means store.old) (O.means out.old)) (outside (S.means store.new) (O.means out.new)) result }
     ensures kept { IsRefusal result → HoldsTheSame (S.means store.old) (S.means store.new) }

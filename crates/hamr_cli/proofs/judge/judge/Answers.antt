@@ -1,8 +1,7 @@
 use Rattle.std.proofs.Common.{◌≡◌, true}
 use Rattle.hamr_cli.specs.Judge.{IsJudgedFile, IsJudged}
 use Rattle.hamr_cli.specs.Package.{IsThin}
-use Rattle.hamr_cli.proofs.Causes.{OnStopped-all}
-use Rattle.hamr_cli.proofs.Judged.{IfOk-map, judged-by}
+use Rattle.hamr_cli.proofs.Judged.{IfOk-map, OnStopped-all, judged-by}
 use Rattle.hamr_cli.proofs.judge.judge.Goals as goal
 
 pub returns-in-None-clause-judged : goal.returns-in-None-clause-judged
@@ -13,13 +12,13 @@ returns-in-None-clause-judged g c = λ told arch is.
 
 pub returns-in-Some-clause-judged : goal.returns-in-Some-clause-judged
 returns-in-Some-clause-judged g c =
-    let held = g.S.Store.held c.args.store.now in
+    let held = (g.S.Store.means c.args.store.now).held in
     let tree = c.args.tree.now in
     let trace = c.args.trace.now in
     let thin = rw c.in-Some.is at c.in_ok-arch.ensures.found in
     IfOk-map c.judge_by.result
-    (λ found. g.S.Store.tells c.args.store.now ≡ true → IsJudgedFile held c.in-Some.arch trace found)
-    (λ found. g.S.Store.tells c.args.store.now ≡ true → IsJudged held tree trace found)
+    (λ found. (g.S.Store.means c.args.store.now).tells ≡ true → IsJudgedFile held c.in-Some.arch trace found)
+    (λ found. (g.S.Store.means c.args.store.now).tells ≡ true → IsJudged held tree trace found)
     (λ found judged told. judged-by held tree trace found (record {
       arch = c.in-Some.arch;
       is_thin = thin;
