@@ -20,11 +20,11 @@ pub mod PrintedUnits
 pub mod RangeEnds
 pub mod Ranges
 pub mod Refusals
+pub mod Samples
 pub mod Standing
 pub mod StatementGrammar
 pub mod Tokens
 pub mod TypedefGrammar
 pub mod UnitGrammar
-pub mod UserUnits
 pub mod Values
 pub mod WholeUnits

@@ -35,8 +35,8 @@ pub use item::{
     Enumeration, External, Function, InitialValue, Item, Member, Parameter, Pointer, Prototype,
     Returned, Structure, Variable,
 };
-pub use name_bytes::{begins_name, continues_name};
 pub use literal_value::value_under;
+pub use name_bytes::{begins_name, continues_name};
 pub use named::{Literal, Named, SignedLiteral};
 pub use numeral::Numeral;
 pub use numeral_text::past_numeral;

@@ -4,7 +4,7 @@ ghost use Rattle.std.specs.Prelude.{◌≡◌, true};
 ghost use Rattle.c_tree.specs.Numerals.{is_numeral};
 
 use crate::integer_type::IntegerType;
-use crate::numeral_text::{meaning, is_numeral};
+use crate::numeral_text::{is_numeral, meaning};
 use hw_text::{ByteList, NoMemory};
 use std::alloc::Global;
 
