@@ -1,3 +1,4 @@
+pub mod Decimals
 pub mod ExpressionInduction
 pub mod Numbers
 pub mod PrintedStatements

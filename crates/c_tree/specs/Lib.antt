@@ -1,3 +1,4 @@
+pub mod Decimals
 pub mod Dialects
 pub mod Expressions
 pub mod Items

@@ -3,11 +3,13 @@
 
 mod build_expression;
 mod byte_class;
+mod decimal;
 mod dialect;
 mod expression;
 mod identifier;
 mod integer_type;
 mod item;
+mod lists;
 mod literal_value;
 mod name_bytes;
 mod named;
@@ -35,6 +37,7 @@ pub use item::{
     Enumeration, External, Function, InitialValue, Item, Member, Parameter, Pointer, Prototype,
     Returned, Structure, Variable,
 };
+pub use lists::appended;
 pub use literal_value::value_under;
 pub use name_bytes::{begins_name, continues_name};
 pub use named::{Literal, Named, SignedLiteral};

@@ -3,6 +3,7 @@
 ghost use Rattle.std.specs.Prelude.{◌≡◌, true};
 ghost use Rattle.c_tree.specs.Numerals.{is_numeral};
 
+use crate::decimal::decimal_text;
 use crate::integer_type::IntegerType;
 use crate::numeral_text::{is_numeral, meaning};
 use hw_text::{ByteList, NoMemory};
@@ -20,6 +21,7 @@ impl Numeral {
     ghost use Rattle.std.specs.Prelude.{◌≡◌, ◌<◌, ◌^◌, true, Some, IfOk};
     ghost use Rattle.c_tree.specs.Numerals.{is_numeral, numeral_value, numeral_type};
     ghost use Rattle.c_tree.specs.Spellings.{numeral_of};
+    ghost use Rattle.c_tree.specs.Decimals.{decimal_text};
 
     /// The literal that the bytes spell, where they spell one that a type holds.
     pub fn read(alloc: Global, bytes: &[u8]) -> Result<Option<Numeral>, NoMemory>
@@ -40,6 +42,15 @@ impl Numeral {
         Ok(Numeral {
             bytes: ByteList::of(alloc, bytes)?,
         })
+    }
+
+    /// The literal of a number in base ten.
+    pub fn decimal(alloc: Global, number: u64) -> Result<Numeral, NoMemory>
+        ensures exact { IfOk result (λ literal. literal.bytes ≡ decimal_text number) }
+        ensures value { IfOk result (λ literal. numeral_value literal.bytes ≡ number) }
+    {
+        let text = decimal_text(alloc, number)?;
+        Numeral::of(alloc, text.rows())
     }
 
     pub fn rows(&self) -> &[u8]
