@@ -1,6 +1,7 @@
 pub mod Blanks
 pub mod CallGrammar
 pub mod CountGrammar
+pub mod DialectTexts
 pub mod ExpressionGrammar
 pub mod Flaws
 pub mod Forms
