@@ -1,14 +1,12 @@
 -- What is accepted is a unit that its grammar has.
-use Rattle.std.proofs.Common.{◌≡◌, ◌∙◌, refl, sym, ℕ, true, List, Option, Some, None}
+use Rattle.std.proofs.Common.{◌≡◌, refl, sym, ℕ, true, List, Option, Some, None}
 use Rattle.std.specs.Option.{option_map}
 use Rattle.hw_text.specs.WholeTexts.{IsAccepted}
-use Rattle.hw_text.specs.declared.place.Place.{Place}
 use Rattle.c_tree.specs.Dialects.{has_unit}
 use Rattle.c_tree.specs.declared.dialect.Dialect.{Dialect}
 use Rattle.c_tree.specs.declared.unit.Unit.{Unit as CUnit}
 use Rattle.c_parse.specs.declared.flaw.Flaw.{Flaw}
 use Rattle.c_parse.specs.Flaws.{flaw_at, flawed}
-use Rattle.c_parse.specs.Ranges.{IsEmptyRange}
 use Rattle.c_parse.specs.Values.{Tokens}
 use Rattle.c_parse.specs.WholeUnits.{unit_rules}
 use Rattle.c_parse.proofs.ClearRanges.{Clear}

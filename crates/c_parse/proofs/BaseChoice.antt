@@ -1,5 +1,5 @@
 -- What an lvalue may begin with, by the token ahead.
-use Rattle.std.proofs.Common.{◌≡◌, ◌∙◌, refl, sym, ap, ◌++◌, Bool, true, false, inl, inr}
+use Rattle.std.proofs.Common.{◌≡◌, ◌∙◌, refl, sym, ap, ◌++◌, true, false, inl, inr}
 use Rattle.hw_text.specs.Language.{◌⋅◌, Made}
 use Rattle.hw_text.specs.Reading.{first, Leaves}
 use Rattle.hw_text.proofs.Reading.{refined}

@@ -4,7 +4,6 @@ use Rattle.hw_text.specs.Reading.{begins}
 use Rattle.hw_text.specs.declared.place.Place.{Place}
 use Rattle.hw_text.specs.declared.placed.Placed.{Placed}
 use Rattle.c_tree.specs.declared.dialect.Dialect.{Dialect}
-use Rattle.c_tree.specs.Dialects.{is_full}
 use Rattle.c_tree.specs.declared.named.Named.{Named}
 use Rattle.c_tree.specs.declared.operator.BinaryOperator.{BinaryOperator}
 use Rattle.c_tree.specs.declared.expression.Call.{Call}

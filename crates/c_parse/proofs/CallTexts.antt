@@ -1,5 +1,5 @@
 -- What has been read of a call, step by step.
-use Rattle.std.proofs.Common.{refl, List, [], ◌++◌, Bool, true}
+use Rattle.std.proofs.Common.{refl, List, [], ◌++◌, true}
 use Rattle.hw_text.specs.Language.{◌⋅◌}
 use Rattle.hw_text.specs.Reading.{Anything, Reached, Stuck, Leaves}
 use Rattle.hw_text.proofs.Reading.{step, stuck}

@@ -1,10 +1,9 @@
 -- Tokens in which no range is empty, and what is joined of such.
-use Rattle.std.proofs.Common.{◌≡◌, ◌∙◌, refl, sym, ap, subst, ℕ, ◌+◌, Bool, true, false, List, [], ◌∷◌, ◌++◌, length, length-append, append_assoc, Some, arith}
+use Rattle.std.proofs.Common.{◌≡◌, ◌∙◌, refl, sym, ap, subst, ℕ, ◌+◌, Bool, true, false, [], ◌++◌, length, length-append, append_assoc, Some, arith}
 use Rattle.std.specs.Prelude.{int_lt, ◌≤ℤ◌, ℤ, T, not}
 use lib.Signed.{lt_z_no}
 use Rattle.hw_text.specs.Language.{One}
 use Rattle.hw_text.specs.declared.place.Place.{Place}
-use Rattle.hw_text.specs.declared.placed.Placed.{Placed}
 use Rattle.c_tree.specs.Literals.{signed_value, range_holds}
 use Rattle.c_tree.specs.declared.identifier.Identifier.{Identifier}
 use Rattle.c_tree.specs.declared.named.Named.{Named}
@@ -19,7 +18,7 @@ use Rattle.c_parse.specs.CallGrammar.{Word}
 use Rattle.c_parse.specs.CountGrammar.{SpellsCount}
 use Rattle.c_parse.specs.ExpressionGrammar.{Sign, Name}
 use Rattle.c_parse.specs.Ranges.{IsEmptyRange}
-use Rattle.c_parse.specs.Values.{Tokens, name_of, name_in, again_in, again_of}
+use Rattle.c_parse.specs.Values.{Tokens, name_in, again_in, again_of}
 use Rattle.c_parse.proofs.TokenKinds.{none-some}
 
 -- no range of these tokens is empty

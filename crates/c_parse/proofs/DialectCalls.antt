@@ -1,5 +1,5 @@
 -- Which calls and values a grammar has texts of: for users those without pointers.
-use Rattle.std.proofs.Common.{◌≡◌, ◌∙◌, refl, ap, Bool, true, false, List, [], ◌∷◌, inl, inr}
+use Rattle.std.proofs.Common.{◌≡◌, ◌∙◌, refl, ap, Bool, true, List, [], ◌∷◌, inl, inr}
 use Rattle.std.specs.List.{list_all}
 use Rattle.hw_text.specs.Language.{Each}
 use Rattle.c_tree.specs.declared.dialect.Dialect.{Dialect}

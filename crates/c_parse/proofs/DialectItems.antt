@@ -15,7 +15,7 @@ use Rattle.c_tree.specs.Dialects.{is_full, has_statement, has_parameter, has_ret
 use Rattle.c_parse.specs.Values.{Tokens}
 use Rattle.hw_text.specs.Language.{Each, Made, ◌∣◌}
 use Rattle.c_tree.specs.declared.dialect.Dialect.{Dialect}
-use Rattle.c_parse.specs.TypedefGrammar.{SpellsEnumeration, SpellsStructure, SpellsTypedef}
+use Rattle.c_parse.specs.TypedefGrammar.{SpellsEnumeration, SpellsStructure}
 use Rattle.c_tree.specs.declared.item.Item.TheVariants as item
 use Rattle.c_parse.proofs.ClearRanges.{Clear, halves}
 use Rattle.c_parse.proofs.DialectCalls.{all-had, later-had, right-had}

@@ -1,5 +1,5 @@
 -- What stands behind a token behind which an expression may begin: a call, or what ends soon, or a part of an outermost expression.
-use Rattle.std.proofs.Common.{◌≡◌, ◌∙◌, refl, sym, ap, subst, ℕ, ◌+◌, ◌-◌, ◌≤◌, [], ◌∷◌, ◌++◌, length, append_assoc, append-nil, Bool, true, false, Option, None, inl, inr, arith, length-append}
+use Rattle.std.proofs.Common.{◌≡◌, ◌∙◌, refl, sym, ap, subst, ℕ, ◌+◌, ◌-◌, ◌≤◌, [], ◌∷◌, ◌++◌, length, append_assoc, append-nil, Bool, true, Option, None, inl, inr, arith, length-append}
 use Rattle.std.specs.Prelude.{⊤, ◌⊎◌, cond, ◌&&◌}
 use Rattle.std.specs.Option.{option_and_then}
 use Rattle.hw_text.specs.declared.placed.Placed.{Placed}

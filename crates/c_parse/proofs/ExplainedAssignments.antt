@@ -1,5 +1,5 @@
 -- What stands behind the tokens of an lvalue and of an assignment behind which an expression may begin.
-use Rattle.std.proofs.Common.{◌≡◌, ◌∙◌, refl, sym, ap, subst, List, [], ◌∷◌, ◌++◌, inl, inr, append_assoc, false}
+use Rattle.std.proofs.Common.{◌≡◌, ◌∙◌, refl, sym, ap, subst, List, [], ◌∷◌, ◌++◌, inl, inr, append_assoc}
 use Rattle.std.proofs.lemmas.Bool.{false≢true}
 use Rattle.hw_text.specs.Language.{◌⋅◌}
 use Rattle.hw_text.specs.declared.place.Place.{Place}

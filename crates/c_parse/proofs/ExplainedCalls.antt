@@ -1,5 +1,5 @@
 -- What stands behind the tokens of a call and of a right side behind which an expression may begin.
-use Rattle.std.proofs.Common.{◌∙◌, refl, sym, ap, subst, List, [], ◌∷◌, ◌++◌, inl, inr, append_assoc, append-nil, false, arith}
+use Rattle.std.proofs.Common.{◌∙◌, refl, sym, ap, subst, List, [], ◌∷◌, ◌++◌, inl, inr, append_assoc, append-nil, arith}
 use Rattle.hw_text.specs.Language.{Each}
 use Rattle.c_tree.specs.declared.dialect.Dialect.TheVariants.{User}
 use Rattle.c_tree.specs.declared.expression.Argument.{Argument}

@@ -1,5 +1,5 @@
 -- What stands behind the tokens of the head of a loop behind which an expression may begin.
-use Rattle.std.proofs.Common.{◌∙◌, refl, sym, ap, subst, ℕ, ◌≤◌, ◌++◌, List, length, inl, inr, append_assoc, arith, length-append}
+use Rattle.std.proofs.Common.{◌∙◌, refl, sym, ap, subst, ℕ, ◌≤◌, ◌++◌, length, inl, inr, append_assoc, arith, length-append}
 use Rattle.c_tree.specs.declared.identifier.Identifier.{Identifier}
 use Rattle.c_tree.specs.declared.named.SignedLiteral.{SignedLiteral}
 use Rattle.c_parse.specs.declared.counting.CountStart.{CountStart}

@@ -1,5 +1,5 @@
 -- What stands behind the tokens of a local variable behind which an expression may begin.
-use Rattle.std.proofs.Common.{◌∙◌, refl, sym, ap, subst, ℕ, ◌≤◌, [], ◌++◌, length, inl, inr, append_assoc, append-nil, false, arith, length-append}
+use Rattle.std.proofs.Common.{◌∙◌, refl, sym, ap, subst, ℕ, ◌≤◌, [], ◌++◌, length, inl, inr, append_assoc, append-nil, arith, length-append}
 use Rattle.std.specs.Prelude.{⊤}
 use Rattle.c_tree.specs.declared.dialect.Dialect.TheVariants.{User}
 use Rattle.c_tree.specs.declared.statement.LocalValue.{LocalValue}

@@ -1,5 +1,5 @@
 -- What stands behind the tokens of a statement without blocks, and of a condition, behind which an expression may begin.
-use Rattle.std.proofs.Common.{◌∙◌, refl, sym, ap, subst, ◌++◌, inl, inr, append_assoc, false}
+use Rattle.std.proofs.Common.{◌∙◌, refl, sym, ap, subst, ◌++◌, inl, inr, append_assoc}
 use Rattle.std.proofs.lemmas.Bool.{false≢true}
 use Rattle.c_tree.specs.declared.dialect.Dialect.TheVariants.{User}
 use Rattle.c_tree.specs.declared.expression.RightSide.{RightSide}

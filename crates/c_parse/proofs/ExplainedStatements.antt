@@ -1,5 +1,5 @@
 -- What stands behind the tokens of a statement behind which an expression may begin.
-use Rattle.std.proofs.Common.{◌≡◌, ◌∙◌, refl, sym, ap, subst, List, ◌++◌, append_assoc, false, arith}
+use Rattle.std.proofs.Common.{◌≡◌, ◌∙◌, refl, sym, ap, subst, List, ◌++◌, append_assoc, arith}
 use Rattle.std.proofs.lemmas.Bool.{false≢true}
 use Rattle.hw_text.specs.declared.place.Place.{Place}
 use Rattle.c_tree.specs.declared.dialect.Dialect.TheVariants.{User}

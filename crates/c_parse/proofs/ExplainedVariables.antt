@@ -1,5 +1,5 @@
 -- What stands behind the tokens of a heading, of parameters and of a variable of a unit behind which an expression may begin.
-use Rattle.std.proofs.Common.{◌≡◌, ◌∙◌, refl, sym, ap, subst, List, [], ◌∷◌, ◌++◌, append_assoc, append-nil, Bool, false, Option, Some, None, inl, inr, arith}
+use Rattle.std.proofs.Common.{◌≡◌, ◌∙◌, refl, sym, ap, subst, List, [], ◌∷◌, ◌++◌, append_assoc, append-nil, Bool, Option, Some, None, inl, inr, arith}
 use Rattle.std.proofs.lemmas.Bool.{false≢true}
 use Rattle.hw_text.specs.Language.{Each, Made, Maybe, ◌⋅◌}
 use Rattle.hw_text.specs.declared.place.Place.{Place}

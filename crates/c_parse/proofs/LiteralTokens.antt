@@ -1,5 +1,5 @@
 -- The token of a literal at the front of a text.
-use Rattle.std.proofs.Common.{◌≡◌, ◌∙◌, refl, sym, ap, subst, ℕ, ◌-◌, ◌<◌, ◌≤◌, Bool, true, false, List, [], length, take, Option, Some, inl, inr, arith}
+use Rattle.std.proofs.Common.{◌≡◌, ◌∙◌, refl, sym, ap, subst, ℕ, ◌-◌, ◌<◌, ◌≤◌, Bool, true, false, List, [], length, take, Some, inl, inr, arith}
 use Rattle.std.specs.Option.{option_map}
 use Rattle.std.proofs.lemmas.Bool.{false≢true, cases_lt}
 use Rattle.std.proofs.lemmas.Option.{same_Some}
@@ -7,7 +7,6 @@ use Rattle.c_tree.specs.Numerals.{past_numeral, is_numeral}
 use Rattle.c_tree.specs.Spellings.{numeral_by, numeral_of}
 use Rattle.c_tree.specs.declared.numeral.Numeral.{Numeral}
 use Rattle.c_parse.specs.Tokens.{literal_token}
-use Rattle.c_parse.specs.declared.token.Token.{Token}
 use Rattle.c_parse.specs.declared.token.Token.TheVariants as token
 use Rattle.c_parse.proofs.TokenKinds.{none-some}
 

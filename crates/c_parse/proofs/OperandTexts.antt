@@ -1,5 +1,5 @@
 -- What an operand is, by the token ahead.
-use Rattle.std.proofs.Common.{◌≡◌, ◌∙◌, refl, sym, ap, subst, ℕ, ◌+◌, List, ◌++◌, Bool, append_assoc, inl, inr}
+use Rattle.std.proofs.Common.{◌≡◌, ◌∙◌, refl, sym, ap, subst, ℕ, ◌+◌, List, ◌++◌, append_assoc, inl, inr}
 use Rattle.hw_text.specs.Language.{One, ◌⋅◌, Made, ◌∣◌}
 use Rattle.hw_text.specs.Reading.{first, Anything, Reached, Stuck, Leaves}
 use Rattle.hw_text.proofs.Reading.{refined, unmade}

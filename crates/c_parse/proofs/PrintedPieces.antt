@@ -15,7 +15,6 @@ use Rattle.c_parse.specs.declared.keyword.Keyword.{Keyword}
 use Rattle.c_parse.specs.declared.keyword.Keyword.TheVariants as keyword
 use Rattle.c_parse.specs.declared.mark.Mark.{Mark}
 use Rattle.c_parse.specs.declared.mark.Mark.TheVariants as mark
-use Rattle.c_parse.specs.declared.token.Token.{Token}
 use Rattle.c_parse.specs.declared.token.Token.TheVariants as token
 use Rattle.c_parse.proofs.LiteralFronts.{literal-digit, literal-stands}
 use Rattle.c_parse.proofs.MarkFronts.{is_closed, closed-stands, before-space, NoSign, NoEqual, NoAnd, minus-stands, bang-stands, ampersand-stands}

@@ -1,7 +1,7 @@
 -- Tokens that spell a value, wherever they stand.
-use Rattle.std.proofs.Common.{◌≡◌, Bool, true, false, List, [], ◌∷◌, ◌++◌, map, length, get_or, drop, Option, Some, None, inl, inr, refl, ap, ◌∙◌, subst, arith, IsTrue}
-use Rattle.std.proofs.lemmas.Bool.{false≢true, and_parts}
-use Rattle.std.specs.Prelude.{IsTrue, ◌&&◌, ◌||◌}
+use Rattle.std.proofs.Common.{◌≡◌, Bool, List, [], ◌∷◌, ◌++◌, map, length, get_or, drop, Option, Some, None, inl, inr, refl, ap, ◌∙◌, subst, arith, IsTrue}
+use Rattle.std.proofs.lemmas.Bool.{and_parts}
+use Rattle.std.specs.Prelude.{IsTrue}
 use Rattle.std.specs.List.{flat_map, list_all}
 use Rattle.std.specs.Option.{option_map}
 use Rattle.hw_text.specs.declared.place.Place.{Place}

@@ -1,5 +1,5 @@
 -- The canonical tokens of statements without blocks, and of the heads of loops, spell them.
-use Rattle.std.proofs.Common.{◌≡◌, ℕ, Bool, List, [], ◌∷◌, ◌++◌, refl, sym, ap, ◌∙◌, subst, append_assoc, IsTrue}
+use Rattle.std.proofs.Common.{◌≡◌, Bool, List, [], ◌∷◌, ◌++◌, refl, sym, ap, ◌∙◌, subst, append_assoc, IsTrue}
 use Rattle.std.proofs.lemmas.Bool.{and_parts}
 use Rattle.c_tree.specs.declared.dialect.Dialect.{Dialect}
 use Rattle.c_tree.specs.Unplaced.{origin, unplaced_named, unplaced_signed, unplaced_statement_step, unplaced_branch_step, unplaced_otherwise_step, unplaced_statement, unplaced_branch, unplaced_otherwise}

@@ -1,6 +1,6 @@
 -- The canonical tokens of units spell them.
 use Rattle.std.specs.Prelude.{◌||◌}
-use Rattle.std.proofs.Common.{◌≡◌, Bool, true, false, not, List, [], ◌∷◌, ◌++◌, map, Option, Some, None, inr, refl, sym, ap, ◌∙◌, subst, append_assoc, append-nil, IsTrue}
+use Rattle.std.proofs.Common.{◌≡◌, Bool, true, false, not, List, [], ◌∷◌, ◌++◌, map, Option, Some, None, inr, refl, sym, ap, ◌∙◌, append_assoc, append-nil, IsTrue}
 use Rattle.std.specs.Prelude.{◌&&◌}
 use Rattle.std.specs.List.{flat_map, list_all}
 use Rattle.std.specs.Option.{option_map}
@@ -9,7 +9,6 @@ use Rattle.hw_text.specs.Language.{◌⋅◌, Made, ◌∣◌}
 use Rattle.std.proofs.lemmas.Bool.{and_parts}
 use Rattle.c_parse.proofs.DialectExpressions.{both-true}
 use Rattle.c_tree.specs.declared.dialect.Dialect.{Dialect}
-use Rattle.c_tree.specs.declared.dialect.Dialect.TheVariants.{User, Full}
 use Rattle.c_tree.specs.Unplaced.{origin, unplaced_named, unplaced_class, unplaced_right, unplaced_statement}
 use Rattle.c_tree.specs.UnplacedUnits.{unplaced_parameter, unplaced_item, SameUnit}
 use Rattle.c_tree.specs.declared.named.Named.{Named}

@@ -1,5 +1,5 @@
 -- What stands on the right, and calls and lvalues: texts of them, and with which tokens they begin.
-use Rattle.std.proofs.Common.{◌≡◌, ◌∙◌, refl, sym, ap, Bool, ℕ, List, [], ◌++◌, append_assoc, append-nil, Some, ◌+◌, inl, inr}
+use Rattle.std.proofs.Common.{◌≡◌, ◌∙◌, refl, sym, ap, Bool, ℕ, [], ◌++◌, append_assoc, append-nil, Some, ◌+◌, inl, inr}
 use Rattle.hw_text.specs.declared.placed.Placed.{Placed}
 use Rattle.hw_text.specs.declared.place.Place.{Place}
 use Rattle.hw_text.specs.Language.{◌⋅◌, One}

@@ -1,5 +1,5 @@
 -- Texts that the grammar has: what stands alone is an expression of each level, and small texts are spelled as they should be.
-use Rattle.std.proofs.Common.{◌≡◌, ◌+◌, refl, sym, ℕ, suc, zero, List, [], ◌∷◌, append-nil, arith, Bool, true, false, inl, inr}
+use Rattle.std.proofs.Common.{◌≡◌, ◌+◌, refl, sym, ℕ, suc, zero, [], ◌∷◌, append-nil, arith, inl, inr}
 use Rattle.hw_text.specs.declared.placed.Placed.{Placed}
 use Rattle.c_tree.specs.declared.dialect.Dialect.{Dialect}
 use Rattle.c_tree.specs.declared.dialect.Dialect.TheVariants.{User, Full}

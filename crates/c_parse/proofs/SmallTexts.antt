@@ -1,5 +1,5 @@
 -- A small text of each kind.
-use Rattle.std.proofs.Common.{refl, [], ◌∷◌, Bool}
+use Rattle.std.proofs.Common.{refl, [], ◌∷◌}
 use Rattle.hw_text.specs.declared.place.Place.{Place}
 use Rattle.c_tree.specs.declared.dialect.Dialect.{Dialect}
 use Rattle.c_tree.specs.declared.named.Named.{Named}

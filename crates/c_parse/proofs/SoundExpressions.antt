@@ -1,9 +1,7 @@
 -- No empty range stands in the canonical tokens of expressions and calls.
-use Rattle.std.proofs.Common.{◌≡◌, ℕ, Bool, true, if◌then◌else◌, List, [], ◌∷◌, ◌++◌, map, refl, sym, ◌∙◌, subst, false}
+use Rattle.std.proofs.Common.{Bool, true, List, [], ◌∷◌, map, refl, sym, subst, false}
 use Rattle.std.specs.List.{flat_map}
-use Rattle.hw_text.specs.declared.place.Place.{Place}
 use Rattle.c_tree.specs.Expressions.{position_behind}
-use Rattle.c_tree.specs.declared.operator.BinaryOperator.{BinaryOperator}
 use Rattle.c_tree.specs.declared.print_expression.Position.{Position}
 use Rattle.c_tree.specs.declared.print_expression.Position.TheVariants.{Whole, Operand, BehindMinus}
 use Rattle.c_tree.specs.declared.expression.Base.{Base}
@@ -14,15 +12,12 @@ use Rattle.c_tree.specs.declared.expression.Expression.{Expression}
 use Rattle.c_tree.specs.declared.expression.Expression.TheFolds.{fold-roll-Expression, fold-roll-Selector, fold-roll-Lvalue, map-Expression, map-Selector}
 use Rattle.c_tree.specs.declared.expression.Expression.TheOpen.{Selector-F, Lvalue-F}
 use Rattle.c_tree.specs.declared.expression.Expression.TheOpen as opened
-use Rattle.c_tree.specs.declared.expression.Expression.TheViews.{roll-Expression, roll-Selector, roll-Lvalue}
+use Rattle.c_tree.specs.declared.expression.Expression.TheViews.{roll-Expression, roll-Selector}
 use Rattle.c_tree.specs.Starts.{Layer}
 use Rattle.c_parse.specs.PrintedExpressions.{Written, unary_mark, binary_mark, grouped_tokens, base_tokens, expression_tokens_step, selector_tokens_step, lvalue_tokens_step, expression_tokens, selector_tokens, lvalue_tokens, truth_token, behind_comma_tokens, separated}
-use Rattle.c_parse.specs.declared.keyword.Keyword.{Keyword}
 use Rattle.c_parse.specs.declared.keyword.Keyword.TheVariants as keyword
-use Rattle.c_parse.specs.declared.mark.Mark.{Mark}
 use Rattle.c_parse.specs.declared.mark.Mark.TheVariants as mark
 use Rattle.c_parse.specs.declared.token.Token.{Token}
-use Rattle.c_parse.specs.declared.token.Token.TheVariants as token
 use Rattle.c_tree.proofs.ExpressionInduction.{OfEach, Cases, of_each_expression, of_each_lvalue}
 use Rattle.c_tree.specs.declared.expression.Argument.{Argument}
 use Rattle.c_tree.specs.declared.expression.Argument.TheVariants as argument

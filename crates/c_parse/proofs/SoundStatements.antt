@@ -27,7 +27,7 @@ use Rattle.c_tree.specs.declared.statement.Otherwise.TheViews.{roll-Statement, r
 use Rattle.c_tree.proofs.ExpressionInduction.{OfEach}
 use Rattle.c_tree.proofs.StatementInduction.{Cases, of_each_statement}
 use Rattle.c_parse.specs.PrintedExpressions.{integer_token}
-use Rattle.c_parse.specs.PrintedStatements.{type_token, signed_tokens, zero_tokens, local_tokens, count_start_tokens, count_end_tokens, forever_tokens, block_tokens, else_tokens, otherwise_tokens_step, branch_tokens_step, statement_tokens_step, statement_tokens, branch_tokens, otherwise_tokens}
+use Rattle.c_parse.specs.PrintedStatements.{type_token, signed_tokens, zero_tokens, local_tokens, count_end_tokens, block_tokens, else_tokens, otherwise_tokens_step, branch_tokens_step, statement_tokens_step, statement_tokens, branch_tokens, otherwise_tokens}
 use Rattle.c_parse.specs.declared.keyword.Keyword.TheVariants as keyword
 use Rattle.c_parse.specs.declared.mark.Mark.TheVariants as mark
 use Rattle.c_parse.specs.declared.token.Token.{Token}

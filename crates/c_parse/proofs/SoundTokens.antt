@@ -1,5 +1,5 @@
 -- Tokens in which no loop has an empty range, whatever stands behind them.
-use Rattle.std.proofs.Common.{◌≡◌, ◌∙◌, refl, sym, ap, subst, ℕ, Bool, true, false, List, [], ◌∷◌, ◌++◌, map, drop, get_or, length, append_assoc, append-nil, Option, Some, None, inl, inr, arith}
+use Rattle.std.proofs.Common.{◌≡◌, ◌∙◌, refl, sym, ap, subst, Bool, true, false, List, [], ◌∷◌, ◌++◌, map, drop, get_or, append_assoc, append-nil, Option, Some, None, inl, inr}
 use Rattle.std.specs.Prelude.{ℤ, ◌≤ℤ◌, if◌then◌else◌, is_some, option_and_then, T, ⊤}
 use Rattle.std.specs.List.{flat_map}
 use Rattle.std.specs.Option.{option_map}
@@ -8,7 +8,6 @@ use Rattle.std.proofs.lemmas.Bool.{false≢true}
 use Rattle.std.proofs.lemmas.List.{map-append}
 use Rattle.std.proofs.lemmas.Option.{same_Some}
 use lib.Signed.{lt_z_yes, clash_ℤ}
-use Rattle.hw_text.specs.Language.{One}
 use Rattle.hw_text.specs.declared.place.Place.{Place}
 use Rattle.hw_text.specs.declared.placed.Placed.{Placed}
 use Rattle.c_tree.specs.Literals.{numeral_under, signed_value, range_holds}
@@ -24,7 +23,7 @@ use Rattle.c_parse.specs.Keywords.{keyword_text}
 use Rattle.c_parse.specs.PrintedStatements.{signed_tokens}
 use Rattle.c_parse.specs.Ranges.{Bounds, SpellsBounds}
 use Rattle.c_parse.specs.Tokens.{start}
-use Rattle.c_parse.specs.Values.{Tokens, found, keyword_in, literal_in, mark_in}
+use Rattle.c_parse.specs.Values.{Tokens, found, keyword_in, literal_in}
 use Rattle.c_parse.specs.declared.keyword.Keyword.{Keyword}
 use Rattle.c_parse.specs.declared.keyword.Keyword.TheVariants as keyword
 use Rattle.c_parse.specs.declared.mark.Mark.{Mark}

@@ -1,5 +1,5 @@
 -- What has been read of the items of a unit is what has been read of the unit.
-use Rattle.std.proofs.Common.{◌∙◌, refl, ap, List, Bool}
+use Rattle.std.proofs.Common.{◌∙◌, refl, ap, List}
 use Rattle.hw_text.specs.declared.place.Place.{Place}
 use Rattle.hw_text.specs.Language.{Each}
 use Rattle.hw_text.specs.Reading.{TheEnd, Reached, Stuck}

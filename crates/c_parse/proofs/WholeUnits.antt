@@ -1,5 +1,5 @@
 -- What the rules of units say of lists of tokens, and that a text has one list of tokens.
-use Rattle.std.proofs.Common.{◌≡◌, ap, ℕ, Bool, List, Some, None}
+use Rattle.std.proofs.Common.{◌≡◌, ap, ℕ, List, Some, None}
 use Rattle.std.specs.Option.{option_map}
 use Rattle.hw_text.specs.declared.place.Place.{Place}
 use Rattle.hw_text.specs.Places.{place_of_rest}

@@ -21,7 +21,6 @@ use Rattle.c_parse.specs.declared.keyword.Keyword.TheVariants as keyword
 use Rattle.c_parse.specs.declared.mark.Mark.TheVariants as mark
 use Rattle.c_parse.specs.declared.token.Token.{Token}
 use Rattle.c_parse.specs.declared.token.Token.TheVariants as token
-use Rattle.std.proofs.lemmas.List.Elements.{All-head}
 use Rattle.c_parse.proofs.PrintedPieces.{name, literal, word, integer, closed, mark_space, minus, ampersand, name-no-operator, literal-no-operator}
 use Rattle.c_parse.proofs.WordFronts.{Ended}
 use Rattle.c_parse.proofs.Written.{Writes, Anything, both, next, blank-behind, nothing, space}

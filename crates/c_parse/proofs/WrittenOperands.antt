@@ -1,6 +1,5 @@
 -- The canonical texts of operands, parts and lvalues have their canonical tokens.
 use Rattle.std.proofs.Common.{◌≡◌, ℕ, Bool, true, false, List, [], ◌∷◌, ◌++◌, map, codes, refl, sym, subst, append_assoc}
-use Rattle.std.proofs.lemmas.List.Elements.{All-head}
 use Rattle.std.specs.List.{flat_map}
 use Rattle.hw_text.specs.declared.place.Place.{Place}
 use Rattle.c_tree.specs.declared.named.Literal.{Literal}
@@ -20,7 +19,6 @@ use Rattle.c_tree.specs.Printing.{truth_text}
 use Rattle.c_parse.specs.PrintedExpressions.{Written, base_tokens, expression_tokens_step, selector_tokens_step, lvalue_tokens_step, expression_tokens, selector_tokens, lvalue_tokens}
 use Rattle.c_parse.specs.declared.mark.Mark.TheVariants as mark
 use Rattle.c_parse.specs.declared.token.Token.{Token}
-use Rattle.c_parse.specs.declared.token.Token.TheVariants as token
 use Rattle.c_tree.proofs.ExpressionInduction.{OfEach}
 use Rattle.c_parse.proofs.MarkFronts.{NoSign, NoEqual}
 use Rattle.c_parse.proofs.PrintedPieces.{name, literal, truth, closed, NoOperator, name-no-operator, literal-no-operator}

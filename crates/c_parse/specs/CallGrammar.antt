@@ -1,5 +1,5 @@
 -- The grammar of types, literals behind a minus, calls, and what stands on the right (docs/formats/c.md).
-use Rattle.std.specs.Prelude.{◌≡◌, Bool, true, false, List, [], ◌∷◌}
+use Rattle.std.specs.Prelude.{◌≡◌, true, false, List, [], ◌∷◌}
 use Rattle.hw_text.specs.declared.place.Place.{Place}
 use Rattle.hw_text.specs.Language.{One, ◌⋅◌, Each, Made, ◌∣◌}
 use Rattle.c_tree.specs.declared.dialect.Dialect.{Dialect}

@@ -16,9 +16,6 @@ use Rattle.c_tree.specs.declared.expression.Selector.{Selector}
 use Rattle.c_tree.specs.declared.expression.Selector.TheVariants as selector
 use Rattle.c_tree.specs.declared.expression.Lvalue.{Lvalue}
 use Rattle.c_tree.specs.declared.expression.Expression.{Expression}
-use Rattle.c_tree.specs.declared.expression.Expression.TheOpen.{Expression-F}
-use Rattle.c_tree.specs.declared.expression.Expression.TheViews.{roll-Expression, out-Expression}
-use Rattle.c_tree.specs.declared.expression.Expression.TheOpen as layer
 use Rattle.c_tree.specs.declared.expression.Expression.TheVariants.{Number, Truth, Value, Unary, Cast, Binary}
 use Rattle.c_parse.specs.declared.mark.Mark.{Mark}
 use Rattle.c_parse.specs.declared.mark.Mark.TheVariants as mark

@@ -2,18 +2,16 @@
 use Rattle.std.specs.Prelude.{Bool, ◌∷◌, Option, Some, None}
 use Rattle.hw_text.specs.declared.place.Place.{Place}
 use Rattle.hw_text.specs.Language.{One, ◌⋅◌, Made, ◌∣◌}
-use Rattle.c_tree.specs.Starts.{start_of_base}
 use Rattle.c_tree.specs.declared.dialect.Dialect.{Dialect}
 use Rattle.c_tree.specs.declared.integer_type.IntegerType.{IntegerType}
 use Rattle.c_tree.specs.declared.named.Named.{Named}
 use Rattle.c_tree.specs.declared.named.Literal.{Literal}
 use Rattle.c_tree.specs.declared.expression.Base.{Base}
 use Rattle.c_tree.specs.declared.expression.Base.TheVariants as base
-use Rattle.c_tree.specs.declared.expression.Lvalue.{Lvalue}
 use Rattle.c_tree.specs.declared.expression.Selector.{Selector}
 use Rattle.c_tree.specs.declared.expression.Selector.TheVariants as selector
 use Rattle.c_tree.specs.declared.expression.Expression.{Expression}
-use Rattle.c_tree.specs.declared.expression.Expression.TheVariants.{Number, Truth, Value}
+use Rattle.c_tree.specs.declared.expression.Expression.TheVariants.{Number, Truth}
 use Rattle.c_parse.specs.declared.mark.Mark.TheVariants as mark
 use Rattle.c_parse.specs.Values.{Tokens, name_token, literal_of, integer_of, truth_of}
 use Rattle.c_parse.specs.ExpressionGrammar.{Sign, Name, InFull, member, SpellsWhole}

@@ -1,5 +1,5 @@
 -- The grammar of statements without blocks, and of conditions, in the user grammar or the full one (docs/formats/c.md).
-use Rattle.std.specs.Prelude.{Bool, ⊤}
+use Rattle.std.specs.Prelude.{⊤}
 use Rattle.hw_text.specs.declared.place.Place.{Place}
 use Rattle.hw_text.specs.Language.{One, ◌⋅◌, Made, ◌∣◌}
 use Rattle.c_tree.specs.declared.dialect.Dialect.{Dialect}

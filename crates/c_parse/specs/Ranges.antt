@@ -1,14 +1,11 @@
 -- The ranges of loops over numbers, and which of them are empty (docs/formats/c.md).
-use Rattle.std.specs.Prelude.{◌≡◌, ℕ, ◌+◌, ◌-◌, ◌%◌, ℤ, pos, neg_ℤ, ◌≤ℤ◌, Bool, true, false, ◌++◌, length, Option, Some}
+use Rattle.std.specs.Prelude.{◌≡◌, ℕ, ◌+◌, ◌≤ℤ◌, ◌++◌, length}
 use Rattle.hw_text.specs.declared.place.Place.{Place}
 use Rattle.hw_text.specs.Language.{One, ◌⋅◌, Made}
 use Rattle.c_tree.specs.Literals.{signed_value}
 use Rattle.c_tree.specs.declared.integer_type.IntegerType.{IntegerType}
-use Rattle.c_tree.specs.declared.integer_type.IntegerType.TheVariants.{U32, U64}
 use Rattle.c_tree.specs.declared.named.Named.{Named}
 use Rattle.c_tree.specs.declared.named.SignedLiteral.{SignedLiteral}
-use Rattle.c_tree.specs.Types.{largest}
-use Rattle.c_tree.specs.Numerals.{numeral_value, numeral_type}
 use Rattle.c_parse.specs.declared.keyword.Keyword.TheVariants as keyword
 use Rattle.c_parse.specs.declared.mark.Mark.TheVariants as mark
 use Rattle.c_parse.specs.Values.{Tokens, integer_of}

@@ -1,5 +1,5 @@
 -- Why a text is no unit: what is told where no unit goes on, and of more than is allowed (docs/formats/c.md).
-use Rattle.std.specs.Prelude.{ℕ, ◌-◌, ◌==◌, pos, Bool, false, ◌&&◌, if◌then◌else◌, List, [], ◌∷◌, slice_get, codes, Option, Some, None}
+use Rattle.std.specs.Prelude.{ℕ, ◌-◌, ◌==◌, pos, ◌&&◌, if◌then◌else◌, List, [], ◌∷◌, slice_get, codes, Option, Some, None}
 use Rattle.hw_text.specs.declared.code.Code.{Code}
 use Rattle.hw_text.specs.declared.code.Code.TheVariants as code
 use Rattle.hw_text.specs.declared.place.Place.{Place}

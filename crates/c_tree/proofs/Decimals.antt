@@ -1,18 +1,18 @@
 -- Numbers in base ten are literals with their values.
-use Rattle.std.proofs.Common.{◌≡◌, ◌∙◌, refl, sym, ap, subst, ℕ, ◌+◌, ◌-◌, ◌*◌, ◌^◌, ◌<◌, ◌≤◌, suc, zero, Bool, true, false, ◌==◌, nat_lt, List, [], ◌∷◌, ◌++◌, codes, length, get_or, pos, Option, Some, None, arith}
-use Rattle.std.specs.Prelude.{◌&&◌, if◌then◌else◌, is_some, nat_le}
-use Rattle.std.proofs.lemmas.Bool.{le-leb, ltb-true, ltb-false}
+use Rattle.std.proofs.Common.{◌≡◌, ◌∙◌, refl, ap, ℕ, ◌+◌, ◌-◌, ◌*◌, ◌^◌, ◌<◌, ◌≤◌, suc, zero, Bool, true, false, ◌==◌, nat_lt, List, [], ◌∷◌, ◌++◌, codes, get_or, Some, None, arith}
+use Rattle.std.specs.Prelude.{if◌then◌else◌, is_some, nat_le}
+use Rattle.std.proofs.lemmas.Bool.{le-leb, ltb-true}
 use Rattle.std.proofs.lemmas.Bool.Decides.{nat_tests}
 use Rattle.std.proofs.lemmas.Fmt.{decimal_is_IsNumeral, decimal_digit, first_decimal}
 use Rattle.std.proofs.lemmas.Str.Parse.{FoldsDigits, tells_digits, numerals_by_fold}
 use Rattle.std.specs.Fmt.{decimal}
 use Rattle.std.specs.Str.Parse.{AllDigits, digits_value}
 use Rattle.hw_text.specs.Name.{is_digit}
-use Rattle.c_tree.specs.Numerals.{is_in, begins_in, past_one, past_all, begins_hex, past_digits, past_numeral, number_from, numeral_value, candidates, first_holding, numeral_type, is_empty, is_numeral}
+use Rattle.c_tree.specs.Numerals.{begins_in, past_one, past_all, begins_hex, past_digits, number_from, numeral_value, candidates, first_holding, is_numeral}
 use Rattle.c_tree.specs.Decimals.{decimal_text}
 use Rattle.c_tree.specs.Spellings.{zero_is_numeral}
 use Rattle.c_tree.specs.Types.{largest}
-use Rattle.c_tree.specs.declared.byte_class.ByteClass.TheVariants.{Zero, Digit, Unsigned, Long}
+use Rattle.c_tree.specs.declared.byte_class.ByteClass.TheVariants.{Digit, Unsigned, Long}
 use Rattle.c_tree.specs.declared.integer_type.IntegerType.{IntegerType}
 use Rattle.c_tree.specs.declared.integer_type.IntegerType.TheVariants.{I32, I64, U32, U64}
 

@@ -1,15 +1,12 @@
 -- What is printed of statements with blocks.
-use Rattle.std.proofs.Common.{◌≡◌, ℕ, Bool, true, ◌&&◌, List, ◌++◌, map, Result, Ok, Err, refl, sym, ap, ◌∙◌, append_assoc}
+use Rattle.std.proofs.Common.{◌≡◌, ℕ, List, ◌++◌, map, Result, Ok, Err, sym, ap, ◌∙◌, append_assoc}
 use Rattle.std.specs.Prelude.{OnOk}
-use Rattle.std.specs.List.{list_all}
 use Rattle.hw_text.specs.declared.no_memory.NoMemory.{NoMemory}
 use Rattle.hw_text.specs.declared.place.Place.{Place}
 use Rattle.c_tree.specs.Statements.{Lines, block_text, count_text, forever_text, otherwise_step, statement_step, branch_step, statement_text}
 use Rattle.c_tree.specs.declared.integer_type.IntegerType.{IntegerType}
 use Rattle.c_tree.specs.declared.named.Named.{Named}
 use Rattle.c_tree.specs.declared.named.SignedLiteral.{SignedLiteral}
-use Rattle.c_tree.specs.declared.statement.Branch.{Branch}
-use Rattle.c_tree.specs.declared.statement.Otherwise.{Otherwise}
 use Rattle.c_tree.specs.declared.statement.Otherwise.TheFolds.{fold-roll-Statement}
 use Rattle.c_tree.specs.declared.statement.Otherwise.TheOpen as opened
 use Rattle.c_tree.specs.declared.statement.Statement.{Statement}
