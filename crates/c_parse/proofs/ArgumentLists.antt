@@ -6,6 +6,7 @@ use Rattle.hw_text.specs.Language.{Nothing, ◌⋅◌, Each}
 use Rattle.hw_text.specs.Reading.{first, begins, Begins, BeginsWith, Reached, Stuck, Leaves}
 use Rattle.hw_text.proofs.Reading.{refined, rebuilt, more, no_more, ended, step, stuck, first-begins, never-begins, either-begins}
 use Rattle.hw_text.specs.declared.placed.Placed.{Placed}
+use Rattle.c_tree.specs.declared.dialect.Dialect.{Dialect}
 use Rattle.c_tree.specs.declared.expression.Argument.{Argument}
 use Rattle.c_parse.specs.declared.token.Token.{Token}
 use Rattle.c_parse.specs.declared.mark.Mark.TheVariants as mark
@@ -29,19 +30,19 @@ is_comma = is_mark mark.Comma
 no-comma : (m : Tokens) → Closes m → begins is_comma m ≡ false
 no-comma m closes = stands-so mark.CloseParenthesis is_comma false (λ at. refl) m closes
 
-module _ (full : Bool) where
+module _ (dialect : Dialect) where
   abbrev pub All : List Argument → Tokens → Type 0
-  All = Separated (Arg full)
+  All = Separated (Arg dialect)
 
-  no-close : Begins is_close false (Arg full)
-  no-close = either-begins is_close false AddressForm (ValueForm full) (address-begins is_close false (λ at. refl)) (value-begins full mark.CloseParenthesis refl)
+  no-close : Begins is_close false (Arg dialect)
+  no-close = either-begins is_close false AddressForm (ValueForm dialect) (address-begins is_close false (λ at. refl)) (value-begins dialect mark.CloseParenthesis refl)
 
-  nexts-follow : (xs : List Argument) (w m : Tokens) → Each (Next full) xs w → Closes m → F (w ++ m)
+  nexts-follow : (xs : List Argument) (w m : Tokens) → Each (Next dialect) xs w → Closes m → F (w ++ m)
   nexts-follow [] w m none closes =
       ap (λ (l : Tokens). begins (goes_on loosest_level) (l ++ m)) none ∙ stands-so mark.CloseParenthesis (goes_on loosest_level) false (λ at. refl) m closes
   nexts-follow (x ∷ xs) w m (us, vs, split, next, rest) closes =
       ap (λ (l : Tokens). begins (goes_on loosest_level) (l ++ m)) split ∙ ap (begins (goes_on loosest_level)) (append_assoc us vs m)
-      ∙ next-begins full (goes_on loosest_level) false (λ at. refl) x us (vs ++ m) next
+      ∙ next-begins dialect (goes_on loosest_level) false (λ at. refl) x us (vs ++ m) next
 
   module _ (before : Tokens) where
     pub arguments-none : (none : List Argument) → none ≡ [] → begins is_close before ≡ true → Reached All Closes before before none
@@ -55,39 +56,39 @@ module _ (full : Bool) where
             absurd (false≢true (sym (no-close x us (vs ++ m) one) ∙ sym (ap (λ (l : Tokens). begins is_close (l ++ m)) split ∙ ap (begins is_close) (append_assoc us vs m)) ∙ first-begins is_close (v ++ m) before same ∙ there))
 
     module _ (none : begins is_close before ≡ false) where
-      argument_ahead : Leaves All Closes before before (λ p. p.0 ∷ p.1) (Arg full ⋅ Each (Next full))
-      argument_ahead = refined All Closes before before (λ xs. xs) All (λ p. p.0 ∷ p.1) (Arg full ⋅ Each (Next full)) (whole All Closes before) (λ p v text. text) narrows
+      argument_ahead : Leaves All Closes before before (λ p. p.0 ∷ p.1) (Arg dialect ⋅ Each (Next dialect))
+      argument_ahead = refined All Closes before before (λ xs. xs) All (λ p. p.0 ∷ p.1) (Arg dialect ⋅ Each (Next dialect)) (whole All Closes before) (λ p v text. text) narrows
         where
-          narrows : (xs : List Argument) (v m : Tokens) → All xs v → Closes m → first (v ++ m) ≡ first before → (p : Argument × List Argument) × (xs ≡ p.0 ∷ p.1) × (Arg full ⋅ Each (Next full)) p v
+          narrows : (xs : List Argument) (v m : Tokens) → All xs v → Closes m → first (v ++ m) ≡ first before → (p : Argument × List Argument) × (xs ≡ p.0 ∷ p.1) × (Arg dialect ⋅ Each (Next dialect)) p v
           narrows [] v m text closes same =
               absurd (false≢true (sym none ∙ sym (first-begins is_close m before (ap (λ (l : Tokens). first (l ++ m)) (sym text) ∙ same)) ∙ closes))
           narrows (x ∷ xs) v m text closes same = ((x, xs), refl, text)
 
       module _ (at : Tokens) where
-        pub first-argument-stuck : Stuck (Arg full) F before at → Stuck All Closes before at
-        first-argument-stuck part = stuck All Closes before (Arg full) F before at (λ p. p.0 ∷ p.1) (Each (Next full)) argument_ahead nexts-follow ([], [], refl) part
+        pub first-argument-stuck : Stuck (Arg dialect) F before at → Stuck All Closes before at
+        first-argument-stuck part = stuck All Closes before (Arg dialect) F before at (λ p. p.0 ∷ p.1) (Each (Next dialect)) argument_ahead nexts-follow ([], [], refl) part
 
-        pub first-argument-read : (x : Argument) (read : List Argument) → read ≡ x ∷ [] → Reached (Arg full) F before at x → Leaves All Closes before at (λ later. read ++ later) (Each (Next full))
-        first-argument-read x read is part = rebuilt All Closes before at (λ later. x ∷ later) (λ later. read ++ later) (Each (Next full))
+        pub first-argument-read : (x : Argument) (read : List Argument) → read ≡ x ∷ [] → Reached (Arg dialect) F before at x → Leaves All Closes before at (λ later. read ++ later) (Each (Next dialect))
+        first-argument-read x read is part = rebuilt All Closes before at (λ later. x ∷ later) (λ later. read ++ later) (Each (Next dialect))
             (λ later. ap (λ (xs : List Argument). xs ++ later) (sym is))
-            (step All Closes before (Arg full) F before at (λ p. p.0 ∷ p.1) (Each (Next full)) argument_ahead nexts-follow x part)
+            (step All Closes before (Arg dialect) F before at (λ p. p.0 ∷ p.1) (Each (Next dialect)) argument_ahead nexts-follow x part)
 
-    module _ (at : Tokens) (earlier : List Argument) (so : Leaves All Closes before at (λ later. earlier ++ later) (Each (Next full))) where
+    module _ (at : Tokens) (earlier : List Argument) (so : Leaves All Closes before at (λ later. earlier ++ later) (Each (Next dialect))) where
       pub arguments-read : begins is_comma at ≡ false → Reached All Closes before at earlier
       arguments-read none = subst (λ (xs : List Argument). Reached All Closes before at xs) (append-nil earlier)
           (ended All Closes before at (λ (u : ⊤). earlier ++ [])
-          (no_more All Closes before at (Next full) (λ later. earlier ++ later) (λ x w m text same. never-begins is_comma (Next full) at (next-begins full is_comma true (λ at. refl)) none x w m text same) so))
+          (no_more All Closes before at (Next dialect) (λ later. earlier ++ later) (λ x w m text same. never-begins is_comma (Next dialect) at (next-begins dialect is_comma true (λ at. refl)) none x w m text same) so))
 
       module _ (there : begins is_comma at ≡ true) where
-        next_ahead : Leaves All Closes before at (λ p. earlier ++ (p.0 ∷ p.1)) (Next full ⋅ Each (Next full))
-        next_ahead = more All Closes before at (Next full) (λ later. earlier ++ later)
+        next_ahead : Leaves All Closes before at (λ p. earlier ++ (p.0 ∷ p.1)) (Next dialect ⋅ Each (Next dialect))
+        next_ahead = more All Closes before at (Next dialect) (λ later. earlier ++ later)
             (λ m closes same. false≢true (sym (no-comma m closes) ∙ first-begins is_comma m at same ∙ there)) so
 
         module _ (after : Tokens) where
-          pub next-stuck : Stuck (Next full) F at after → Stuck All Closes before after
-          next-stuck part = stuck All Closes before (Next full) F at after (λ p. earlier ++ (p.0 ∷ p.1)) (Each (Next full)) next_ahead nexts-follow ([], [], refl) part
+          pub next-stuck : Stuck (Next dialect) F at after → Stuck All Closes before after
+          next-stuck part = stuck All Closes before (Next dialect) F at after (λ p. earlier ++ (p.0 ∷ p.1)) (Each (Next dialect)) next_ahead nexts-follow ([], [], refl) part
 
-          pub next-read : (x : Argument) (new : List Argument) → new ≡ earlier ++ x ∷ [] → Reached (Next full) F at after x → Leaves All Closes before after (λ later. new ++ later) (Each (Next full))
-          next-read x new is part = rebuilt All Closes before after (λ later. earlier ++ (x ∷ later)) (λ later. new ++ later) (Each (Next full))
+          pub next-read : (x : Argument) (new : List Argument) → new ≡ earlier ++ x ∷ [] → Reached (Next dialect) F at after x → Leaves All Closes before after (λ later. new ++ later) (Each (Next dialect))
+          next-read x new is part = rebuilt All Closes before after (λ later. earlier ++ (x ∷ later)) (λ later. new ++ later) (Each (Next dialect))
               (λ later. sym (append_assoc earlier (x ∷ []) later) ∙ ap (λ (xs : List Argument). xs ++ later) (sym is))
-              (step All Closes before (Next full) F at after (λ p. earlier ++ (p.0 ∷ p.1)) (Each (Next full)) next_ahead nexts-follow x part)
+              (step All Closes before (Next dialect) F at after (λ p. earlier ++ (p.0 ∷ p.1)) (Each (Next dialect)) next_ahead nexts-follow x part)

@@ -5,6 +5,7 @@ use Rattle.hw_text.specs.Reading.{begins, Begins, Anything, Reached, Stuck, Leav
 use Rattle.hw_text.proofs.Reading.{unmade, left, right, last, last-stuck, made-begins, then-begins}
 use Rattle.hw_text.specs.declared.place.Place.{Place}
 use Rattle.hw_text.specs.declared.placed.Placed.{Placed}
+use Rattle.c_tree.specs.declared.dialect.Dialect.{Dialect}
 use Rattle.c_tree.specs.declared.named.Named.{Named}
 use Rattle.c_tree.specs.declared.expression.Argument.{Argument}
 use Rattle.c_tree.specs.declared.expression.Argument.TheVariants as argument
@@ -42,22 +43,22 @@ pub address-begins : (test : Placed Token → Bool) (so : Bool) → ((at : Place
 address-begins test so is = made-begins test so (Ampersand ⋅ Name) address
     (then-begins test so Ampersand Name (λ p w m text. sign-begins-so mark.Ampersand test so is p w m text))
 
-module _ (full : Bool) where
+module _ (dialect : Dialect) where
   abbrev Whole : Expression → Tokens → Type 0
-  Whole = SpellsWhole full
+  Whole = SpellsWhole dialect
 
   abbrev pub ValueForm : Argument → Tokens → Type 0
   ValueForm = Made argument.Value Whole
 
   abbrev pub Arg : Argument → Tokens → Type 0
-  Arg = SpellsArgument full
+  Arg = SpellsArgument dialect
 
   -- no expression begins with a mark that begins none
   pub value-begins : (m : Mark) → form_of_mark m ≡ form.Nothing → Begins (is_mark m) false ValueForm
   value-begins m none a w r (e, is, text) = unless (begins (is_mark m) (w ++ r)) refl
     where
       unless : (b : Bool) → begins (is_mark m) (w ++ r) ≡ b → b ≡ false
-      unless true there = absurd (some-form full loosest_level e w r text (mark-form m (w ++ r) there ∙ none))
+      unless true there = absurd (some-form dialect loosest_level e w r text (mark-form m (w ++ r) there ∙ none))
       unless false there = refl
 
   module _ (before at : Tokens) where
@@ -88,7 +89,7 @@ module _ (full : Bool) where
       value-read e part = last Arg F before Whole F before at argument.Value value_ahead (λ m follows. follows) e part
 
   an_argument : (a : Argument) × (w : Tokens) × Arg a w
-  an_argument = let e = whole-text full in (argument.Value e.0, e.1, inr (e.0, refl, e.2))
+  an_argument = let e = whole-text dialect in (argument.Value e.0, e.1, inr (e.0, refl, e.2))
 
   abbrev Comma : Place → Tokens → Type 0
   Comma = Sign mark.Comma

@@ -1,11 +1,14 @@
 -- What has been read of what lvalues begin with, and of what stands behind the `(` of casts, step by step.
 use Rattle.std.proofs.Common.{◌≡◌, ◌∙◌, refl, sym, ap, subst, [], ◌++◌, Bool, true, false, append-nil, inl, inr}
-use Rattle.std.specs.Prelude.{⊤}
+use Rattle.std.specs.Prelude.{⊤, ◌&&◌}
+use Rattle.std.proofs.lemmas.Bool.{and_parts}
 use Rattle.hw_text.specs.Language.{One, Nothing, ◌⋅◌, Made, ◌∣◌}
 use Rattle.hw_text.specs.Reading.{first, begins, Begins, Anything, BeginsWithout, Reached, Stuck, Leaves}
 use Rattle.hw_text.proofs.Reading.{refined, unmade, left, right, ended, step, stuck, never-follows, one-begins, made-begins, then-begins}
 use Rattle.hw_text.specs.declared.place.Place.{Place}
 use Rattle.hw_text.specs.declared.placed.Placed.{Placed}
+use Rattle.c_tree.specs.Dialects.{is_full}
+use Rattle.c_tree.specs.declared.dialect.Dialect.{Dialect}
 use Rattle.c_tree.specs.declared.integer_type.IntegerType.{IntegerType}
 use Rattle.c_tree.specs.declared.named.Named.{Named}
 use Rattle.c_tree.specs.declared.expression.Base.{Base}
@@ -96,14 +99,14 @@ module _ (before mid : Tokens) where
 abbrev arrow_of : Place × Named → Named → Base
 arrow_of p x = base.Member x p.1
 
-abbrev ArrowForm : Bool → (Named → Base) → Tokens → Type 0
-ArrowForm full = InFull full (Made arrow_of (Sign mark.Arrow ⋅ Name))
+abbrev ArrowForm : Dialect → (Named → Base) → Tokens → Type 0
+ArrowForm dialect = InFull dialect (Made arrow_of (Sign mark.Arrow ⋅ Name))
 
 abbrev AloneForm : (Named → Base) → Tokens → Type 0
 AloneForm = Made (λ (u : ⊤). base.Variable) Nothing
 
-abbrev BehindName : Bool → (Named → Base) → Tokens → Type 0
-BehindName full = AloneForm ∣ ArrowForm full
+abbrev BehindName : Dialect → (Named → Base) → Tokens → Type 0
+BehindName dialect = AloneForm ∣ ArrowForm dialect
 
 abbrev of_name : Named × (Named → Base) → Base
 of_name p = p.1 p.0
@@ -118,55 +121,68 @@ arrow-begins : Begins is_arrow true (Made arrow_of (Sign mark.Arrow ⋅ Name))
 arrow-begins = made-begins is_arrow true (Sign mark.Arrow ⋅ Name) arrow_of
     (then-begins is_arrow true (Sign mark.Arrow) Name (one-begins is_arrow true (mark_of mark.Arrow) (λ t p is. some-is (mark_of mark.Arrow t) p is)))
 
-module _ (full : Bool) (before : Tokens) where
-  named_begun : Leaves (SpellsNamedBase full) NoArrow before before of_name (Name ⋅ BehindName full)
-  named_begun = refined (SpellsNamedBase full) NoArrow before before (λ b. b) (SpellsNamedBase full) of_name (Name ⋅ BehindName full) (whole (SpellsNamedBase full) NoArrow before) widens narrows
+module _ (dialect : Dialect) (before : Tokens) where
+  named_begun : Leaves (SpellsNamedBase dialect) NoArrow before before of_name (Name ⋅ BehindName dialect)
+  named_begun = refined (SpellsNamedBase dialect) NoArrow before before (λ b. b) (SpellsNamedBase dialect) of_name (Name ⋅ BehindName dialect) (whole (SpellsNamedBase dialect) NoArrow before) widens narrows
     where
-      widens : (p : Named × (Named → Base)) (v : Tokens) → (Name ⋅ BehindName full) p v → SpellsNamedBase full (of_name p) v
+      widens : (p : Named × (Named → Base)) (v : Tokens) → (Name ⋅ BehindName dialect) p v → SpellsNamedBase dialect (of_name p) v
       widens p v (us, vs, split, name, inl (u, is, none)) =
           inl (p.0, ap (λ (f : Named → Base). f p.0) is, subst (Name p.0) (sym (split ∙ ap (λ (l : Tokens). us ++ l) none ∙ append-nil us)) name)
       widens p v (us, vs, split, name, inr (is, (q, made_of, rest))) =
           inr (is, ((p.0, q), ap (λ (f : Named → Base). f p.0) made_of, (us, vs, split, name, rest)))
 
-      narrows : (b : Base) (v m : Tokens) → SpellsNamedBase full b v → NoArrow m → first (v ++ m) ≡ first before → (p : Named × (Named → Base)) × (b ≡ of_name p) × (Name ⋅ BehindName full) p v
+      narrows : (b : Base) (v m : Tokens) → SpellsNamedBase dialect b v → NoArrow m → first (v ++ m) ≡ first before → (p : Named × (Named → Base)) × (b ≡ of_name p) × (Name ⋅ BehindName dialect) p v
       narrows b v m (inl (x, is, name)) follows same = ((x, base.Variable), is, (v, [], sym (append-nil v), name, inl (tt, refl, refl)))
       narrows b v m (inr (is, (p, made_of, (us, vs, split, name, rest)))) follows same = ((p.0, arrow_of p.1), made_of, (us, vs, split, name, inr (is, (p.1, refl, rest))))
 
-module _ (full : Bool) (before at : Tokens) where
-  pub name-stuck : Stuck Name Anything before at → Stuck (SpellsNamedBase full) NoArrow before at
-  name-stuck = stuck (SpellsNamedBase full) NoArrow before Name Anything before at of_name (BehindName full) (named_begun full before) (free (BehindName full) NoArrow) (base.Variable, [], inl (tt, refl, refl))
+module _ (dialect : Dialect) (before at : Tokens) where
+  pub name-stuck : Stuck Name Anything before at → Stuck (SpellsNamedBase dialect) NoArrow before at
+  name-stuck = stuck (SpellsNamedBase dialect) NoArrow before Name Anything before at of_name (BehindName dialect) (named_begun dialect before) (free (BehindName dialect) NoArrow) (base.Variable, [], inl (tt, refl, refl))
 
   module _ (x : Named) (one : Reached Name Anything before at x) where
-    behind_name : Leaves (SpellsNamedBase full) NoArrow before at (λ f. f x) (BehindName full)
-    behind_name = step (SpellsNamedBase full) NoArrow before Name Anything before at of_name (BehindName full) (named_begun full before) (free (BehindName full) NoArrow) x one
+    behind_name : Leaves (SpellsNamedBase dialect) NoArrow before at (λ f. f x) (BehindName dialect)
+    behind_name = step (SpellsNamedBase dialect) NoArrow before Name Anything before at of_name (BehindName dialect) (named_begun dialect before) (free (BehindName dialect) NoArrow) x one
 
-    no_arrow : ((f : Named → Base) (w m : Tokens) → ArrowForm full f w → NoArrow m → first (w ++ m) ≡ first at → ⊥) → Reached (SpellsNamedBase full) NoArrow before at (base.Variable x)
-    no_arrow never = ended (SpellsNamedBase full) NoArrow before at (λ (u : ⊤). base.Variable x)
-        (unmade (SpellsNamedBase full) NoArrow before at (λ f. f x) (λ (u : ⊤). base.Variable) Nothing
-        (left (SpellsNamedBase full) NoArrow before at (λ f. f x) AloneForm (ArrowForm full) never behind_name))
+    no_arrow : ((f : Named → Base) (w m : Tokens) → ArrowForm dialect f w → NoArrow m → first (w ++ m) ≡ first at → ⊥) → Reached (SpellsNamedBase dialect) NoArrow before at (base.Variable x)
+    no_arrow never = ended (SpellsNamedBase dialect) NoArrow before at (λ (u : ⊤). base.Variable x)
+        (unmade (SpellsNamedBase dialect) NoArrow before at (λ f. f x) (λ (u : ⊤). base.Variable) Nothing
+        (left (SpellsNamedBase dialect) NoArrow before at (λ f. f x) AloneForm (ArrowForm dialect) never behind_name))
 
     -- the user grammar has no arrows
-    pub alone-for-users : full ≡ false → Reached (SpellsNamedBase full) NoArrow before at (base.Variable x)
-    alone-for-users not_full = no_arrow (λ f w m text follows same. never-in-full full (Made arrow_of (Sign mark.Arrow ⋅ Name)) not_full f w text)
+    alone-for-users : is_full dialect ≡ false → Reached (SpellsNamedBase dialect) NoArrow before at (base.Variable x)
+    alone-for-users not_full = no_arrow (λ f w m text follows same. never-in-full dialect (Made arrow_of (Sign mark.Arrow ⋅ Name)) not_full f w text)
 
-    pub alone-read : begins is_arrow at ≡ false → Reached (SpellsNamedBase full) NoArrow before at (base.Variable x)
+    alone-read : begins is_arrow at ≡ false → Reached (SpellsNamedBase dialect) NoArrow before at (base.Variable x)
     alone-read none = no_arrow (λ f w m text follows same. none-there is_arrow (Made arrow_of (Sign mark.Arrow ⋅ Name)) NoArrow at arrow-begins none f w m text.1 follows same)
 
-    module _ (is : full ≡ true) (there : begins is_arrow at ≡ true) where
-      arrow_ahead : Leaves (SpellsNamedBase full) NoArrow before at (λ p. base.Member x p.1) (Sign mark.Arrow ⋅ Name)
-      arrow_ahead = unmade (SpellsNamedBase full) NoArrow before at (λ f. f x) arrow_of (Sign mark.Arrow ⋅ Name)
-          (in-full (SpellsNamedBase full) NoArrow before at full (λ f. f x) (Made arrow_of (Sign mark.Arrow ⋅ Name)) is
-          (right (SpellsNamedBase full) NoArrow before at (λ f. f x) AloneForm (ArrowForm full) never behind_name))
+    pub alone-there : (is_full dialect && begins is_arrow at) ≡ false → Reached (SpellsNamedBase dialect) NoArrow before at (base.Variable x)
+    alone-there none = by (is_full dialect) refl none
+      where
+        by : (b : Bool) → is_full dialect ≡ b → (b && begins is_arrow at) ≡ false → Reached (SpellsNamedBase dialect) NoArrow before at (base.Variable x)
+        by true is nothing = alone-read nothing
+        by false is nothing = alone-for-users is
+
+    module _ (both : (is_full dialect && begins is_arrow at) ≡ true) where
+      is : is_full dialect ≡ true
+      is = (and_parts (is_full dialect) (begins is_arrow at) both).0
+
+      there : begins is_arrow at ≡ true
+      there = (and_parts (is_full dialect) (begins is_arrow at) both).1
+
+      arrow_ahead : Leaves (SpellsNamedBase dialect) NoArrow before at (λ p. base.Member x p.1) (Sign mark.Arrow ⋅ Name)
+      arrow_ahead = unmade (SpellsNamedBase dialect) NoArrow before at (λ f. f x) arrow_of (Sign mark.Arrow ⋅ Name)
+          (in-full (SpellsNamedBase dialect) NoArrow before at dialect (λ f. f x) (Made arrow_of (Sign mark.Arrow ⋅ Name)) is
+          (right (SpellsNamedBase dialect) NoArrow before at (λ f. f x) AloneForm (ArrowForm dialect) never behind_name))
         where
           never : (f : Named → Base) (w m : Tokens) → AloneForm f w → NoArrow m → first (w ++ m) ≡ first at → ⊥
           never f w m text follows same = never-follows is_arrow at there m follows (ap (λ (l : Tokens). first (l ++ m)) (sym text.2) ∙ same)
 
-      pub arrow-stuck : (mid : Tokens) → Stuck (Sign mark.Arrow) Anything at mid → Stuck (SpellsNamedBase full) NoArrow before mid
-      arrow-stuck = two.first-stuck (SpellsNamedBase full) NoArrow before at (λ p. base.Member x p.1) (Sign mark.Arrow) Name Anything Anything arrow_ahead (free Name NoArrow) (λ m follows. tt) name-text
+      pub arrow-stuck : (mid : Tokens) → Stuck (Sign mark.Arrow) Anything at mid → Stuck (SpellsNamedBase dialect) NoArrow before mid
+      arrow-stuck = two.first-stuck (SpellsNamedBase dialect) NoArrow before at (λ p. base.Member x p.1) (Sign mark.Arrow) Name Anything Anything arrow_ahead (free Name NoArrow) (λ m follows. tt) name-text
 
       module _ (mid : Tokens) (p : Place) (arrow : Reached (Sign mark.Arrow) Anything at mid p) (after : Tokens) where
-        pub member-stuck : Stuck Name Anything mid after → Stuck (SpellsNamedBase full) NoArrow before after
-        member-stuck = two.second-stuck (SpellsNamedBase full) NoArrow before at (λ p. base.Member x p.1) (Sign mark.Arrow) Name Anything Anything arrow_ahead (free Name NoArrow) (λ m follows. tt) name-text mid p arrow after
+        pub member-stuck : Stuck Name Anything mid after → Stuck (SpellsNamedBase dialect) NoArrow before after
+        member-stuck = two.second-stuck (SpellsNamedBase dialect) NoArrow before at (λ p. base.Member x p.1) (Sign mark.Arrow) Name Anything Anything arrow_ahead (free Name NoArrow) (λ m follows. tt) name-text mid p arrow after
 
-        pub member-read : (y : Named) → Reached Name Anything mid after y → Reached (SpellsNamedBase full) NoArrow before after (base.Member x y)
-        member-read = two.both-read (SpellsNamedBase full) NoArrow before at (λ p. base.Member x p.1) (Sign mark.Arrow) Name Anything Anything arrow_ahead (free Name NoArrow) (λ m follows. tt) name-text mid p arrow after
+        pub member-read : (y : Named) → Reached Name Anything mid after y → Reached (SpellsNamedBase dialect) NoArrow before after (base.Member x y)
+        member-read = two.both-read (SpellsNamedBase dialect) NoArrow before at (λ p. base.Member x p.1) (Sign mark.Arrow) Name Anything Anything arrow_ahead (free Name NoArrow) (λ m follows. tt) name-text mid p arrow after

@@ -3,6 +3,7 @@ use Rattle.std.proofs.Common.{◌≡◌, ◌∙◌, refl, sym, ap, ℕ, ◌+◌,
 use Rattle.hw_text.specs.Reading.{begins}
 use Rattle.hw_text.specs.declared.place.Place.{Place}
 use Rattle.hw_text.specs.declared.placed.Placed.{Placed}
+use Rattle.c_tree.specs.declared.dialect.Dialect.{Dialect}
 use Rattle.c_tree.specs.declared.named.Named.{Named}
 use Rattle.c_tree.specs.declared.operator.BinaryOperator.{BinaryOperator}
 use Rattle.c_tree.specs.declared.expression.Call.{Call}
@@ -59,24 +60,24 @@ operator-not n o t is = unless (is_opening t) refl
         absurd (none-some o (ap (λ (u : Token). of_level n t.place (operator_in u)) (sym (mark-token mark.OpenParenthesis t p.0 p.1)) ∙ is))
     unless false there = refl
 
-operations-not : (full : Bool) (n : ℕ) (os : List Operation) (w m : Tokens) → SpellsOperations full n os w → begins is_opening m ≡ false → begins is_opening (w ++ m) ≡ false
-operations-not full n os w m (no_operation f k all ts is none) behind = ap (λ (l : Tokens). begins is_opening (l ++ m)) none ∙ behind
-operations-not full n os w m (an_operation f k o r rest us vs ws all ts is split operator right more) behind =
+operations-not : (dialect : Dialect) (n : ℕ) (os : List Operation) (w m : Tokens) → SpellsOperations dialect n os w → begins is_opening m ≡ false → begins is_opening (w ++ m) ≡ false
+operations-not dialect n os w m (no_operation f k all ts is none) behind = ap (λ (l : Tokens). begins is_opening (l ++ m)) none ∙ behind
+operations-not dialect n os w m (an_operation f k o r rest us vs ws all ts is split operator right more) behind =
     ap (λ (l : Tokens). begins is_opening (l ++ m)) (split ∙ ap (λ (l : Tokens). l ++ (vs ++ ws)) operator.1) ∙ operator-not n o operator.0 operator.2
 
-parts-not : (full : Bool) (ps : List Selector) (w m : Tokens) → SpellsParts full ps w → begins is_opening m ≡ false → begins is_opening (w ++ m) ≡ false
-parts-not full ps w m (no_part f all ts is none) behind = ap (λ (l : Tokens). begins is_opening (l ++ m)) none ∙ behind
-parts-not full ps w m (a_member f p x qs ds ns us all ts is split dot name rest) behind =
+parts-not : (dialect : Dialect) (ps : List Selector) (w m : Tokens) → SpellsParts dialect ps w → begins is_opening m ≡ false → begins is_opening (w ++ m) ≡ false
+parts-not dialect ps w m (no_part f all ts is none) behind = ap (λ (l : Tokens). begins is_opening (l ++ m)) none ∙ behind
+parts-not dialect ps w m (a_member f p x qs ds ns us all ts is split dot name rest) behind =
     ap (λ (l : Tokens). begins is_opening (l ++ m)) split ∙ ap (begins is_opening) (append_assoc ds (ns ++ us) m)
     ∙ sign-begins-so mark.Dot is_opening false (λ at. refl) p ds ((ns ++ us) ++ m) dot
-parts-not full ps w m (an_index f p q x qs os us cs vs all ts is split opening index closing rest) behind =
+parts-not dialect ps w m (an_index f p q x qs os us cs vs all ts is split opening index closing rest) behind =
     ap (λ (l : Tokens). begins is_opening (l ++ m)) split ∙ ap (begins is_opening) (append_assoc os (us ++ (cs ++ vs)) m)
     ∙ sign-begins-so mark.OpenBracket is_opening false (λ at. refl) p os ((us ++ (cs ++ vs)) ++ m) opening
 
-module _ (full : Bool) where
-  lvalue-no-call : (l : Lvalue) (w m : Tokens) → SpellsLvalue full l w → begins is_opening m ≡ false → begins_call (w ++ m) ≡ false
+module _ (dialect : Dialect) where
+  lvalue-no-call : (l : Lvalue) (w m : Tokens) → SpellsLvalue dialect l w → begins is_opening m ≡ false → begins_call (w ++ m) ≡ false
   lvalue-no-call l w m (lvalue f b ps us vs k ts is split (inl (x, b_is, name)) rest) behind =
-      second-not x us (vs ++ m) w m (ap (λ (l : Tokens). l ++ m) split ∙ append_assoc us vs m) name (parts-not full ps vs m rest behind)
+      second-not x us (vs ++ m) w m (ap (λ (l : Tokens). l ++ m) split ∙ append_assoc us vs m) name (parts-not dialect ps vs m rest behind)
   lvalue-no-call l w m (lvalue f b ps us vs k ts is split (inr (inl (full_is, (p, b_is, (os, more, split_base, opening, pointer))))) rest) behind =
       other-form form.Parenthesis (w ++ m) refl
       (behind-form form.Parenthesis os (more ++ vs) w m (split ∙ ap (λ (l : Tokens). l ++ vs) split_base ∙ append_assoc os more vs) (sign-begins mark.OpenParenthesis p.0 os ((more ++ vs) ++ m) opening))
@@ -86,7 +87,7 @@ module _ (full : Bool) where
       (ap (λ (l : Tokens). begins is_opening ((l ++ vs) ++ m)) split_more ∙ ap (λ (l : Tokens). begins is_opening (l ++ m)) (append_assoc hs ms vs)
       ∙ ap (begins is_opening) (append_assoc hs (ms ++ vs) m) ∙ sign-begins-so mark.Arrow is_opening false (λ at. refl) p.1.0 hs ((ms ++ vs) ++ m) arrow)
 
-  operand-no-call : (e : Expression) (w m : Tokens) → SpellsPrefix full e w → begins is_opening m ≡ false → begins_call (w ++ m) ≡ false
+  operand-no-call : (e : Expression) (w m : Tokens) → SpellsPrefix dialect e w → begins is_opening m ≡ false → begins_call (w ++ m) ≡ false
   operand-no-call e w m (number f l d ts is one) behind = other-form form.Literal (w ++ m) refl (literal-begins l w m one)
   operand-no-call e w m (truth f p d ts is one) behind = other-form form.Truth (w ++ m) refl (truth-begins p w m one)
   operand-no-call e w m (value f l d ts is text) behind = lvalue-no-call l w m text behind
@@ -98,13 +99,13 @@ module _ (full : Bool) where
       other-form form.Parenthesis (w ++ m) refl (behind-form form.Parenthesis ps (cs ++ (qs ++ us)) w m split (sign-begins mark.OpenParenthesis p ps ((cs ++ (qs ++ us)) ++ m) opening))
 
   -- no expression begins as a call does
-  pub expression-no-call : (n : ℕ) (e : Expression) (w m : Tokens) → SpellsExpression full n e w → begins is_opening m ≡ false → begins_call (w ++ m) ≡ false
+  pub expression-no-call : (n : ℕ) (e : Expression) (w m : Tokens) → SpellsExpression dialect n e w → begins is_opening m ≡ false → begins_call (w ++ m) ≡ false
   expression-no-call n e w m (chain f k x os us vs d ts low is split first rest) behind =
       ap (λ (l : Tokens). begins_call (l ++ m)) split ∙ ap begins_call (append_assoc us vs m)
-      ∙ expression-no-call (n + 1) x us (vs ++ m) first (operations-not full n os vs m rest behind)
+      ∙ expression-no-call (n + 1) x us (vs ++ m) first (operations-not dialect n os vs m rest behind)
   expression-no-call n e w m (prefix f k d ts tight text) behind = operand-no-call e w m text behind
 
-  pub call-begins : (c : Call) (w m : Tokens) → SpellsCall full c w → begins_call (w ++ m) ≡ true
+  pub call-begins : (c : Call) (w m : Tokens) → SpellsCall dialect c w → begins_call (w ++ m) ≡ true
   call-begins c w m (p, is, (us, vs, split, name, (os, more, split_more, opening, rest))) =
       ap (λ (l : Tokens). begins_call (l ++ m)) (split ∙ ap (λ (l : Tokens). l ++ vs) name.1)
       ∙ ap (λ (b : Bool). b && begins is_opening (vs ++ m)) (some-is (name_of name.0) p.0 name.2)

@@ -1,11 +1,12 @@
 -- What has been read of a range, step by step.
-use Rattle.std.proofs.Common.{◌≡◌, ◌∙◌, refl, sym, ap, subst, Bool, List, ℕ, [], ◌∷◌, ◌++◌, append_assoc, Some, inl}
+use Rattle.std.proofs.Common.{◌≡◌, ◌∙◌, refl, sym, ap, subst, Bool, [], ◌∷◌, ◌++◌, append_assoc, Some, inl}
 use Rattle.std.proofs.lemmas.Slice.Eq.{bytes_eq-Decides}
 use Rattle.hw_text.specs.declared.place.Place.{Place}
 use Rattle.hw_text.specs.declared.placed.Placed.{Placed}
 use Rattle.hw_text.specs.Language.{◌⋅◌, One}
 use Rattle.hw_text.specs.Reading.{begins, Begins, Anything, Reached, Stuck, Leaves}
 use Rattle.hw_text.proofs.Reading.{made-begins, then-begins}
+use Rattle.c_tree.specs.declared.identifier.Identifier.{Identifier}
 use Rattle.c_tree.specs.declared.integer_type.IntegerType.TheVariants.{I8}
 use Rattle.c_parse.specs.declared.counting.CountStart.{CountStart}
 use Rattle.c_parse.specs.declared.token.Token.{Token}
@@ -23,10 +24,10 @@ use Rattle.c_parse.proofs.Leaves.{put, the_sign, the_name, the_literal}
 pub a_signed : Sample SpellsSigned
 a_signed = (plain_literal the_literal.0, the_literal.1, inl (the_literal.0, refl, the_literal.2))
 
-pub an_again : (n : List ℕ) → (t : Placed Token) × (p : Place) × (again_of n t ≡ Some p)
-an_again n = (put (token.Name n) start, start, ap (λ (b : Bool). found b start) ((bytes_eq-Decides n n).1 refl))
+pub an_again : (n : Identifier) → (t : Placed Token) × (p : Place) × (again_of n t ≡ Some p)
+an_again n = (put (token.Name n) start, start, ap (λ (b : Bool). found b start) ((bytes_eq-Decides n.bytes n.bytes).1 refl))
 
-pub this_again : (n : List ℕ) → Sample (One (again_of n))
+pub this_again : (n : Identifier) → Sample (One (again_of n))
 this_again n = let s = an_again n in (s.1, s.0 ∷ [], (s.0, refl, s.2))
 
 an_integer : Sample (One integer_of)
@@ -35,7 +36,7 @@ an_integer = ((start, I8), put (token.Keyword (keyword.Integer I8)) start ∷ []
 pub a_count_start : Sample SpellsCountStart
 a_count_start = sample_of count_start_of (both an_integer (both the_name (both (the_sign mark.Assign) (both a_signed (the_sign mark.Semicolon)))))
 
-pub a_count_end : (n : List ℕ) → Sample (SpellsCountEnd n)
+pub a_count_end : (n : Identifier) → Sample (SpellsCountEnd n)
 a_count_end n = sample_of count_end_of (both (this_again n) (both (the_sign mark.Less) (both a_signed (both (the_sign mark.Semicolon) (both (this_again n) (both (the_sign mark.Increment) (the_sign mark.CloseParenthesis)))))))
 
 pub a_count : Sample SpellsCount

@@ -4,6 +4,7 @@ use Rattle.std.specs.Prelude.{cond}
 use Rattle.std.proofs.Math.Dec.{eqb-suc-zero}
 use Rattle.std.specs.Option.{option_and_then}
 use Rattle.hw_text.specs.declared.place.Place.{Place}
+use Rattle.c_tree.specs.declared.dialect.Dialect.{Dialect}
 use Rattle.c_tree.specs.declared.expression.Base.{Base}
 use Rattle.c_tree.specs.declared.expression.Selector.{Selector}
 use Rattle.c_tree.specs.declared.expression.Lvalue.{Lvalue}
@@ -57,31 +58,31 @@ bracketed m n pair p q ps ws qs opening inner ending d =
     ap (λ (e : ℕ). inside e rest) after ∙ inside-append ws qs (suc d) ∙ ap (option_and_then (λ e. inside e qs)) (inner (suc d)) ∙
     ap (inside (suc d)) ending.1 ∙ closing ending.0.token m n ending.0.place d pair (mark-token n ending.0 q ending.2)
 
-base-closed : (f : Bool) (b : Base) (ws : Tokens) → SpellsBase f b ws → Closed ws
+base-closed : (f : Dialect) (b : Base) (ws : Tokens) → SpellsBase f b ws → Closed ws
 base-closed f b ws (inl (x, is, name)) = name-closed x ws name
-base-closed f b ws (inr (inl (full, (p, is, (os, more, split, opening, (ss, us, next, star, (ns, cs, last, name, end))))))) =
+base-closed f b ws (inr (inl (dialect, (p, is, (os, more, split, opening, (ss, us, next, star, (ns, cs, last, name, end))))))) =
     moved ws (os ++ ((ss ++ ns) ++ cs))
     (split ∙ ap (λ (l : Tokens). os ++ l) (next ∙ ap (λ (l : Tokens). ss ++ l) last ∙ sym (append_assoc ss ns cs)))
     (bracketed mark.OpenParenthesis mark.CloseParenthesis parentheses p.0 p.1.1.1 os (ss ++ ns) cs opening
     (closed-append ss ns (sign-closed mark.Star (refl, refl, refl) p.1.0 ss star) (name-closed p.1.1.0 ns name)) end)
-base-closed f b ws (inr (inr (full, (p, is, (ns, more, split, name, (ars, ms, next, arrow, target)))))) =
+base-closed f b ws (inr (inr (dialect, (p, is, (ns, more, split, name, (ars, ms, next, arrow, target)))))) =
     moved ws (ns ++ (ars ++ ms)) (split ∙ ap (λ (l : Tokens). ns ++ l) next)
     (closed-append ns (ars ++ ms) (name-closed p.0 ns name) (closed-append ars ms (sign-closed mark.Arrow (refl, refl, refl) p.1.0 ars arrow) (name-closed p.1.1 ms target)))
 
 mutual
-  pub expression-closed : (f : Bool) (n : ℕ) (e : Expression) (ws : Tokens) → SpellsExpression f n e ws → Closed ws
+  pub expression-closed : (f : Dialect) (n : ℕ) (e : Expression) (ws : Tokens) → SpellsExpression f n e ws → Closed ws
   expression-closed f n e ws (chain g k x os us vs d ts low is split first rest) =
       moved ws (us ++ vs) split (closed-append us vs (expression-closed f (n + 1) x us first) (operations-closed f n os vs rest))
   expression-closed f n e ws (prefix g k d ts tight text) = prefix-closed f e ws text
 
-  operations-closed : (f : Bool) (n : ℕ) (os : List Operation) (ws : Tokens) → SpellsOperations f n os ws → Closed ws
+  operations-closed : (f : Dialect) (n : ℕ) (os : List Operation) (ws : Tokens) → SpellsOperations f n os ws → Closed ws
   operations-closed f n os ws (no_operation g k all ts is none) = moved ws [] none (λ d. refl)
   operations-closed f n os ws (an_operation g k o r rest us vs xs all ts is split operator right more) =
       moved ws (us ++ (vs ++ xs)) split
       (closed-append us (vs ++ xs) (one-closed (binary_at n) (λ t x so. binary-plain n t.token t.place x so) o us operator)
       (closed-append vs xs (expression-closed f (n + 1) r vs right) (operations-closed f n rest xs more)))
 
-  prefix-closed : (f : Bool) (e : Expression) (ws : Tokens) → SpellsPrefix f e ws → Closed ws
+  prefix-closed : (f : Dialect) (e : Expression) (ws : Tokens) → SpellsPrefix f e ws → Closed ws
   prefix-closed f e ws (number g l d ts is one) = one-closed literal_of (λ t x so. literal-plain t.token t.place x so) l ws one
   prefix-closed f e ws (truth g p d ts is one) = one-closed truth_of (λ t x so. truth-plain t.token t.place x so) p ws one
   prefix-closed f e ws (value g l d ts is text) = lvalue-closed f l ws text
@@ -95,11 +96,11 @@ mutual
       (bracketed mark.OpenParenthesis mark.CloseParenthesis parentheses p q ps cs qs opening (one-closed integer_of (λ t x so. integer-plain t.token t.place x so) c cs class) end)
       (prefix-closed f x us operand))
 
-  lvalue-closed : (f : Bool) (l : Lvalue) (ws : Tokens) → SpellsLvalue f l ws → Closed ws
+  lvalue-closed : (f : Dialect) (l : Lvalue) (ws : Tokens) → SpellsLvalue f l ws → Closed ws
   lvalue-closed f l ws (lvalue g b ps us vs k ts is split first rest) =
       moved ws (us ++ vs) split (closed-append us vs (base-closed f b us first) (parts-closed f ps vs rest))
 
-  parts-closed : (f : Bool) (ps : List Selector) (ws : Tokens) → SpellsParts f ps ws → Closed ws
+  parts-closed : (f : Dialect) (ps : List Selector) (ws : Tokens) → SpellsParts f ps ws → Closed ws
   parts-closed f ps ws (no_part g all ts is none) = moved ws [] none (λ d. refl)
   parts-closed f ps ws (a_member g p x qs ds ns us all ts is split dot name rest) =
       moved ws (ds ++ (ns ++ us)) split

@@ -1,8 +1,9 @@
 -- What stands behind a token behind which an expression may begin: a call, or what ends soon, or a part of an outermost expression.
-use Rattle.std.proofs.Common.{◌≡◌, ◌∙◌, refl, sym, ap, subst, ℕ, ◌+◌, ◌-◌, ◌≤◌, [], ◌∷◌, ◌++◌, length, append_assoc, append-nil, Bool, true, false, Option, None, inl, inr, arith, length-append}
+use Rattle.std.proofs.Common.{◌≡◌, ◌∙◌, refl, sym, ap, subst, ℕ, ◌+◌, ◌-◌, ◌≤◌, [], ◌∷◌, ◌++◌, length, append_assoc, append-nil, Bool, true, Option, None, inl, inr, arith, length-append}
 use Rattle.std.specs.Prelude.{⊤, ◌⊎◌, cond, ◌&&◌}
 use Rattle.std.specs.Option.{option_and_then}
 use Rattle.hw_text.specs.declared.placed.Placed.{Placed}
+use Rattle.c_tree.specs.declared.dialect.Dialect.TheVariants.{User}
 use Rattle.c_tree.specs.declared.expression.Expression.{Expression}
 use Rattle.c_parse.specs.declared.token.Token.{Token}
 use Rattle.c_parse.specs.ExpressionGrammar.{SpellsWhole}
@@ -32,7 +33,7 @@ pub record IsInOne (b a : Tokens) : Type 0 where
   pub rest : Tokens
   pub value : Expression
   pub led : Led start
-  pub text : SpellsWhole false value (had ++ more)
+  pub text : SpellsWhole User value (had ++ more)
   pub there : IsThere start (had ++ more) rest
   pub ended : Ended rest
   pub before_is : b ≡ start ++ had
@@ -63,7 +64,7 @@ explained-append (u ∷ us) vs b a first second = (
 pub in-turn : (us vs ts b a : Tokens) → ts ≡ us ++ vs → Explained b us (vs ++ a) → Explained (b ++ us) vs a → Explained b ts a
 in-turn us vs ts b a split first second = subst (λ (l : Tokens). Explained b l a) (sym split) (explained-append us vs b a first second)
 
-module _ (us es vs : Tokens) (x : Expression) (led : Led us) (ended : Ended vs) (text : SpellsWhole false x es) (there : IsThere us es vs) where
+module _ (us es vs : Tokens) (x : Expression) (led : Led us) (ended : Ended vs) (text : SpellsWhole User x es) (there : IsThere us es vs) where
   inside-explained : (had more : Tokens) → es ≡ had ++ more → Explained (us ++ had) more vs
   inside-explained had [] split = tt
   inside-explained had (t ∷ more) split =
@@ -75,7 +76,7 @@ module _ (us es vs : Tokens) (x : Expression) (led : Led us) (ended : Ended vs) 
           rest = vs;
           value = x;
           led = led;
-          text = subst (SpellsWhole false x) next text;
+          text = subst (SpellsWhole User x) next text;
           there = subst (λ (l : Tokens). IsThere us l vs) next there;
           ended = ended;
           before_is = append_assoc us had (t ∷ []);

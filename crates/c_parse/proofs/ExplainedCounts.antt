@@ -1,5 +1,6 @@
 -- What stands behind the tokens of the head of a loop behind which an expression may begin.
-use Rattle.std.proofs.Common.{◌∙◌, refl, sym, ap, subst, ℕ, ◌≤◌, ◌++◌, List, length, inl, inr, append_assoc, arith, length-append}
+use Rattle.std.proofs.Common.{◌∙◌, refl, sym, ap, subst, ℕ, ◌≤◌, ◌++◌, length, inl, inr, append_assoc, arith, length-append}
+use Rattle.c_tree.specs.declared.identifier.Identifier.{Identifier}
 use Rattle.c_tree.specs.declared.named.SignedLiteral.{SignedLiteral}
 use Rattle.c_parse.specs.declared.counting.CountStart.{CountStart}
 use Rattle.c_parse.specs.declared.counting.CountEnd.{CountEnd}
@@ -49,7 +50,7 @@ start-explained c b ts a (p, is, (is', m, split, class, (ns, n, next, name, (es,
     (in-turn ls cs k (((b ++ is') ++ ns) ++ es) a last (signed-explained p.1.1.1.0 ls (((b ++ is') ++ ns) ++ es) (cs ++ a) literal)
     (sign-unled mark.Semicolon p.1.1.1.1 cs end refl ((((b ++ is') ++ ns) ++ es) ++ ls) a))))
 
-end-explained : (x : List ℕ) (c : CountEnd) (b ts a : Tokens) → SpellsCountEnd x c ts → Explained b ts a
+end-explained : (x : Identifier) (c : CountEnd) (b ts a : Tokens) → SpellsCountEnd x c ts → Explained b ts a
 end-explained x c b ts a (p, is, (ns, m1, s1, name, (ls, m2, s2, less, (ds, m3, s3, literal, (es, m4, s4, end, (vs, m5, s5, again, (us, cs, s6, increment, closing))))))) =
     in-turn ns m1 ts b a s1 (leaf-explained ns b (m1 ++ a) (again-leaf x p.0 ns name))
     (in-turn ls m2 m1 (b ++ ns) a s2 (leaf-explained ls (b ++ ns) (m2 ++ a) (sign-leaf mark.Less p.1.0 ls less (refl, refl, refl) refl))

@@ -1,6 +1,7 @@
 -- What stands behind the tokens of a local variable behind which an expression may begin.
-use Rattle.std.proofs.Common.{◌∙◌, refl, sym, ap, subst, ℕ, ◌≤◌, [], ◌++◌, length, inl, inr, append_assoc, append-nil, false, arith, length-append}
+use Rattle.std.proofs.Common.{◌∙◌, refl, sym, ap, subst, ℕ, ◌≤◌, [], ◌++◌, length, inl, inr, append_assoc, append-nil, arith, length-append}
 use Rattle.std.specs.Prelude.{⊤}
+use Rattle.c_tree.specs.declared.dialect.Dialect.TheVariants.{User}
 use Rattle.c_tree.specs.declared.statement.LocalValue.{LocalValue}
 use Rattle.c_tree.specs.declared.statement.Statement.{Statement}
 use Rattle.c_parse.specs.declared.mark.Mark.TheVariants as mark
@@ -39,7 +40,7 @@ zeros-end u ts a zeros ended =
     let closed = zeros-closed u ts zeros in
     end-behind ts [] ts a 3 1 (sym (append-nil ts)) closed.0 closed.1 (end-here a ended)
 
-given-explained : (v : LocalValue) (b ts a : Tokens) → SpellsGiven false v ts → Within InRightSide b a → Led b → Ended a → IsExplained b (ts ++ a) × Explained b ts a
+given-explained : (v : LocalValue) (b ts a : Tokens) → SpellsGiven User v ts → Within InRightSide b a → Led b → Ended a → IsExplained b (ts ++ a) × Explained b ts a
 given-explained v b ts a (inl (u, is, zeros)) within led ended = (ends-soon 4 b (ts ++ a) (zeros-end u ts a zeros ended) (omega arith), zeros-explained u b ts a zeros)
 given-explained v b ts a (inr (x, is, right)) within led ended = right-explained x b ts a right within led ended
 
@@ -58,13 +59,13 @@ zero-array-explained v b ts a (p, is, (os, m, split, opening, (ls, n, next, size
     (sign-explained mark.Assign p.1.1.1.0 es assign before_zeros (zs ++ a) (ends-soon 4 (before_zeros ++ es) (zs ++ a) (zeros-end p.1.1.1.1 zs a zeros ended) (omega arith)))
     (zeros-explained p.1.1.1.1 (before_zeros ++ es) zs a zeros))))
 
-local-value-explained : (v : LocalValue) (b ts a : Tokens) → SpellsLocalValue false v ts → Within InGiven b a → Ended a → Explained b ts a
+local-value-explained : (v : LocalValue) (b ts a : Tokens) → SpellsLocalValue User v ts → Within InGiven b a → Ended a → Explained b ts a
 local-value-explained v b ts a (inl array) within ended = zero-array-explained v b ts a array ended
 local-value-explained v b ts a (inr (p, is, (es, gs, split, assign, given))) within ended =
     let inner = given-explained p.1 (b ++ es) gs a given (behind (Sign mark.Assign) InRightSide b a within p.0 es assign) (sign-led mark.Assign p.0 es assign refl b) ended in
     in-turn es gs ts b a split (sign-explained mark.Assign p.0 es assign b (gs ++ a) inner.0) inner.1
 
-pub local-explained : (s : Statement) (b ts a : Tokens) → SpellsLocal false s ts → Within InLocal b a → Explained b ts a
+pub local-explained : (s : Statement) (b ts a : Tokens) → SpellsLocal User s ts → Within InLocal b a → Explained b ts a
 local-explained s b ts a (p, is, (cs, m, split, class, (ns, n, next, name, (vs, es, last, value, end)))) within =
     let named = behind SpellsType (Name ▸ InGiven ◂ Sign mark.Semicolon) b a within p.0 cs class in
     let given = behind Name (InGiven ◂ Sign mark.Semicolon) (b ++ cs) a named p.1.0 ns name in

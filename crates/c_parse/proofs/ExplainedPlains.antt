@@ -1,6 +1,7 @@
 -- What stands behind the tokens of a statement without blocks, and of a condition, behind which an expression may begin.
-use Rattle.std.proofs.Common.{◌∙◌, refl, sym, ap, subst, ◌++◌, inl, inr, append_assoc, false}
+use Rattle.std.proofs.Common.{◌∙◌, refl, sym, ap, subst, ◌++◌, inl, inr, append_assoc}
 use Rattle.std.proofs.lemmas.Bool.{false≢true}
+use Rattle.c_tree.specs.declared.dialect.Dialect.TheVariants.{User}
 use Rattle.c_tree.specs.declared.expression.RightSide.{RightSide}
 use Rattle.c_tree.specs.declared.statement.Statement.{Statement}
 use Rattle.c_parse.specs.declared.mark.Mark.TheVariants as mark
@@ -23,7 +24,7 @@ InCallAlone = InCall ◂ Sign mark.Semicolon
 abbrev InLater : Tokens → Tokens → Tokens → Type 0
 InLater = InAssignment ∥ InCallAlone
 
-pub plain-explained : (s : Statement) (b ts a : Tokens) → SpellsPlain false s ts → Within InPlain b a → Explained b ts a
+pub plain-explained : (s : Statement) (b ts a : Tokens) → SpellsPlain User s ts → Within InPlain b a → Explained b ts a
 plain-explained s b ts a (inl text) within = local-explained s b ts a text (one-way InLocal InLater b a within)
 plain-explained s b ts a (inr (inl text)) within = assignment-explained s b ts a text (one-way InAssignment InCallAlone b a (other-way InLocal InLater b a within))
 plain-explained s b ts a (inr (inr (inl (p, is, (cs, es, split, call, end))))) within =
@@ -32,7 +33,7 @@ plain-explained s b ts a (inr (inr (inl (p, is, (cs, es, split, call, end))))) w
     (sign-unled mark.Semicolon p.1 es end refl (b ++ cs) a)
 plain-explained s b ts a (inr (inr (inr (wrong, more)))) within = absurd (false≢true wrong)
 
-pub condition-explained : (x : RightSide) (b ts a : Tokens) → SpellsCondition false x ts → Within InCondition b a → Explained b ts a
+pub condition-explained : (x : RightSide) (b ts a : Tokens) → SpellsCondition User x ts → Within InCondition b a → Explained b ts a
 condition-explained x b ts a (p, is, (os, m, split, opening, (rs, cs, next, right, closing))) within =
     let opened = behind (Sign mark.OpenParenthesis) (InRightSide ◂ Sign mark.CloseParenthesis) b a within p.0 os opening in
     let inner =

@@ -1,7 +1,8 @@
 -- What stands behind the tokens of a statement behind which an expression may begin.
-use Rattle.std.proofs.Common.{◌≡◌, ◌∙◌, refl, sym, ap, subst, List, ◌++◌, append_assoc, false, arith}
+use Rattle.std.proofs.Common.{◌≡◌, ◌∙◌, refl, sym, ap, subst, List, ◌++◌, append_assoc, arith}
 use Rattle.std.proofs.lemmas.Bool.{false≢true}
 use Rattle.hw_text.specs.declared.place.Place.{Place}
+use Rattle.c_tree.specs.declared.dialect.Dialect.TheVariants.{User}
 use Rattle.c_tree.specs.declared.statement.Branch.{Branch}
 use Rattle.c_tree.specs.declared.statement.Otherwise.{Otherwise}
 use Rattle.c_tree.specs.declared.statement.Statement.{Statement}
@@ -21,7 +22,7 @@ grouped : (b us vs ws : Tokens) → b ++ (us ++ (vs ++ ws)) ≡ ((b ++ us) ++ vs
 grouped b us vs ws = sym (append_assoc (b ++ us) vs ws ∙ append_assoc b us (vs ++ ws))
 
 mutual
-  pub statement-explained : (s : Statement) (b ts a : Tokens) → SpellsStatement false s ts → Within InStatement b a → Explained b ts a
+  pub statement-explained : (s : Statement) (b ts a : Tokens) → SpellsStatement User s ts → Within InStatement b a → Explained b ts a
   statement-explained s b ts a (plain f s' ts' text) within = plain-explained s b ts a text (λ us es vs there. within us es vs (in_plain us es vs there))
   statement-explained s b ts a (choice f first links o us vs ws s' ts' is fits split first_text links_text otherwise_text) within =
       let first_within =
@@ -49,7 +50,7 @@ mutual
       (block-explained body (((b ++ fs) ++ os) ++ hs) vs a block_text body_within)))
   statement-explained s b ts a (loop f p q fs os us s' ts' split word opening (forever g u body hs vs t us' wrong is next head block_text)) within = absurd (false≢true wrong)
 
-  pub statements-explained : (ss : List Statement) (b ts a : Tokens) → SpellsStatements false ss ts → Within InStatements b a → Explained b ts a
+  pub statements-explained : (ss : List Statement) (b ts a : Tokens) → SpellsStatements User ss ts → Within InStatements b a → Explained b ts a
   statements-explained ss b ts a (no_statement f all ts' is none) within = subst (λ (l : Tokens). Explained b l a) (sym none) tt
   statements-explained ss b ts a (a_statement f s rest us vs all ts' is split first later) within =
       in-turn us vs ts b a split
@@ -58,7 +59,7 @@ mutual
       (statements-explained rest (b ++ us) vs a later
       (behind-tokens InStatements InStatements b us a within (λ xs es ys there. in_later s us xs (us ++ xs) es ys refl first there)))
 
-  block-explained : (ss : List Statement) (b ts a : Tokens) → SpellsBlock false ss ts → Within InBlock b a → Explained b ts a
+  block-explained : (ss : List Statement) (b ts a : Tokens) → SpellsBlock User ss ts → Within InBlock b a → Explained b ts a
   block-explained ss b ts a (block f p q ss' os us cs ts' split opening text closing) within =
       in-turn os (us ++ cs) ts b a split (sign-unled mark.OpenBrace p os opening refl b ((us ++ cs) ++ a))
       (in-turn us cs (us ++ cs) (b ++ os) a refl
@@ -66,7 +67,7 @@ mutual
       (around-tokens InBlock InStatements b os cs a within (λ xs es ys there. in_block p q os xs (os ++ xs) es ys cs (ys ++ cs) refl refl opening there closing)))
       (sign-unled mark.CloseBrace q cs closing refl ((b ++ os) ++ us) a))
 
-  branch-explained : (x : Branch) (b ts a : Tokens) → SpellsBranch false x ts → Within InBranch b a → Explained b ts a
+  branch-explained : (x : Branch) (b ts a : Tokens) → SpellsBranch User x ts → Within InBranch b a → Explained b ts a
   branch-explained x b ts a (branch f p c body is us vs x' ts' same split word condition block_text) within =
       in-turn is (us ++ vs) ts b a split (leaf-explained is b ((us ++ vs) ++ a) (word-leaf keyword.If refl p is word))
       (in-turn us vs (us ++ vs) (b ++ is) a refl
@@ -77,7 +78,7 @@ mutual
       (behind-tokens InBranch InBlock b (is ++ us) a within
       (λ xs es ys there. in_body p c is us xs ((is ++ us) ++ xs) es ys (append_assoc is us xs) word condition there)))))
 
-  links-explained : (bs : List Branch) (b ts a : Tokens) → SpellsElseIfs false bs ts → Within InElseIfs b a → Explained b ts a
+  links-explained : (bs : List Branch) (b ts a : Tokens) → SpellsElseIfs User bs ts → Within InElseIfs b a → Explained b ts a
   links-explained bs b ts a (no_branch f all ts' is none) within = subst (λ (l : Tokens). Explained b l a) (sym none) tt
   links-explained bs b ts a (else_if f p x rest os us vs all ts' is split word first later) within =
       in-turn os (us ++ vs) ts b a split (leaf-explained os b ((us ++ vs) ++ a) (word-leaf keyword.Else refl p os word))
@@ -89,7 +90,7 @@ mutual
       (behind-tokens InElseIfs InElseIfs b (os ++ us) a within
       (λ xs es ys there. in_later_link p x os us xs ((os ++ us) ++ xs) es ys (append_assoc os us xs) word first there)))))
 
-  otherwise-explained : (o : Otherwise) (b ts a : Tokens) → SpellsOtherwise false o ts → ((p : Place) (os : Tokens) → Word keyword.Else p os → Within InBlock (b ++ os) a) → Explained b ts a
+  otherwise-explained : (o : Otherwise) (b ts a : Tokens) → SpellsOtherwise User o ts → ((p : Place) (os : Tokens) → Word keyword.Else p os → Within InBlock (b ++ os) a) → Explained b ts a
   otherwise-explained o b ts a (no_else f o' ts' is none) within = subst (λ (l : Tokens). Explained b l a) (sym none) tt
   otherwise-explained o b ts a (an_else f p body os us o' ts' is split word text) within =
       in-turn os us ts b a split (leaf-explained os b (us ++ a) (word-leaf keyword.Else refl p os word))

@@ -1,8 +1,9 @@
 -- What stands behind the tokens of a heading, of parameters and of a variable of a unit behind which an expression may begin.
-use Rattle.std.proofs.Common.{◌≡◌, ◌∙◌, refl, sym, ap, subst, List, [], ◌∷◌, ◌++◌, append_assoc, append-nil, Bool, false, Option, Some, None, inl, inr, arith}
+use Rattle.std.proofs.Common.{◌≡◌, ◌∙◌, refl, sym, ap, subst, List, [], ◌∷◌, ◌++◌, append_assoc, append-nil, Bool, Option, Some, None, inl, inr, arith}
 use Rattle.std.proofs.lemmas.Bool.{false≢true}
 use Rattle.hw_text.specs.Language.{Each, Made, Maybe, ◌⋅◌}
 use Rattle.hw_text.specs.declared.place.Place.{Place}
+use Rattle.c_tree.specs.declared.dialect.Dialect.TheVariants.{User}
 use Rattle.c_tree.specs.declared.named.Named.{Named}
 use Rattle.c_tree.specs.declared.named.Literal.{Literal}
 use Rattle.c_tree.specs.declared.type_name.TypeName.{TypeName}
@@ -44,28 +45,28 @@ heading-explained h b ts a (p, is, (us, m, split, static, (rs, ns, next, result,
     (in-turn rs ns m (b ++ us) a next (leaf-explained rs (b ++ us) (ns ++ a) (result-leaf p.1.0 rs result))
     (leaf-explained ns ((b ++ us) ++ rs) a (name-leaf p.1.1 ns name)))
 
-parameter-ends : (x : Parameter) (ts a : Tokens) → SpellsParameter false x ts → Ended a → EndsWithin 3 (ts ++ a)
+parameter-ends : (x : Parameter) (ts a : Tokens) → SpellsParameter User x ts → Ended a → EndsWithin 3 (ts ++ a)
 parameter-ends x ts a (inl (p, is, (us, vs, split, class, name))) ended =
     let first = type-leaf p.0 us class in
     end-behind us vs ts a 1 2 split (leaf-closed us first) (leaf-length us first) (leaf-end vs a (name-leaf p.1 vs name) ended)
 parameter-ends x ts a (inr (wrong, more)) ended = absurd (false≢true wrong)
 
-parameter-explained : (x : Parameter) (b ts a : Tokens) → SpellsParameter false x ts → Explained b ts a
+parameter-explained : (x : Parameter) (b ts a : Tokens) → SpellsParameter User x ts → Explained b ts a
 parameter-explained x b ts a (inl (p, is, (us, vs, split, class, name))) =
     in-turn us vs ts b a split (leaf-explained us b (vs ++ a) (type-leaf p.0 us class)) (leaf-explained vs (b ++ us) a (name-leaf p.1 vs name))
 parameter-explained x b ts a (inr (wrong, more)) = absurd (false≢true wrong)
 
-later-parameters : (xs : List Parameter) (b ts a : Tokens) → Each (BehindComma (SpellsParameter false)) xs ts → Ended a → Explained b ts a
+later-parameters : (xs : List Parameter) (b ts a : Tokens) → Each (BehindComma (SpellsParameter User)) xs ts → Ended a → Explained b ts a
 later-parameters [] b ts a none ended = none-explained b ts a none
 later-parameters (x ∷ xs) b ts a (us, vs, split, (p, is, (cs, ws, next, comma, parameter)), rest) ended =
     in-turn us vs ts b a split
     (in-turn cs ws us b (vs ++ a) next
     (sign-explained mark.Comma p.0 cs comma b (ws ++ (vs ++ a))
-    (ends-soon 3 (b ++ cs) (ws ++ (vs ++ a)) (parameter-ends p.1 ws (vs ++ a) parameter (later-ended (SpellsParameter false) xs vs a rest ended)) (omega arith)))
+    (ends-soon 3 (b ++ cs) (ws ++ (vs ++ a)) (parameter-ends p.1 ws (vs ++ a) parameter (later-ended (SpellsParameter User) xs vs a rest ended)) (omega arith)))
     (parameter-explained p.1 (b ++ cs) ws (vs ++ a) parameter))
     (later-parameters xs (b ++ us) vs a rest ended)
 
-pub parameters-end : (xs : List Parameter) (ts a : Tokens) → SpellsParameters false xs ts → Ended a → EndsWithin 3 (ts ++ a)
+pub parameters-end : (xs : List Parameter) (ts a : Tokens) → SpellsParameters User xs ts → Ended a → EndsWithin 3 (ts ++ a)
 parameters-end xs ts a (inl (p, is, word)) ended =
     let leaf = word-leaf keyword.Void refl p ts word in
     end-behind ts [] ts a 1 2 (sym (append-nil ts)) (leaf-closed ts leaf) (leaf-length ts leaf) (later-end (end-here a ended))
@@ -74,9 +75,9 @@ parameters-end xs ts a (inl (p, is, word)) ended =
     later-end soon = (soon.0, soon.1, soon.2, soon.3, omega (arith, soon.4))
 parameters-end xs ts a (inr (p, is, (us, vs, split, first, rest))) ended =
     subst (EndsWithin 3) (sym (ap (λ (l : Tokens). l ++ a) split ∙ append_assoc us vs a))
-    (parameter-ends p.0 us (vs ++ a) first (later-ended (SpellsParameter false) p.1 vs a rest ended))
+    (parameter-ends p.0 us (vs ++ a) first (later-ended (SpellsParameter User) p.1 vs a rest ended))
 
-pub parameters-explained : (xs : List Parameter) (b ts a : Tokens) → SpellsParameters false xs ts → Ended a → Explained b ts a
+pub parameters-explained : (xs : List Parameter) (b ts a : Tokens) → SpellsParameters User xs ts → Ended a → Explained b ts a
 parameters-explained xs b ts a (inl (p, is, word)) ended = leaf-explained ts b a (word-leaf keyword.Void refl p ts word)
 parameters-explained xs b ts a (inr (p, is, (us, vs, split, first, rest))) ended =
     in-turn us vs ts b a split (parameter-explained p.0 b us (vs ++ a) first) (later-parameters p.1 (b ++ us) vs a rest ended)

@@ -7,6 +7,8 @@ use Rattle.hw_text.specs.declared.read_fault.ReadFault.{ReadFault}
 use Rattle.hw_text.specs.Language.{◌⋅◌, ◌∣◌, Made, One}
 use Rattle.hw_text.specs.Reading.{begins, Begins, Anything, TheEnd, Reached, Stuck, Reads, Leaves}
 use Rattle.hw_text.proofs.Reading.{made-begins, then-begins, maybe-begins}
+use Rattle.c_tree.specs.declared.dialect.Dialect.{Dialect}
+use Rattle.c_tree.specs.Dialects.{is_full}
 use Rattle.c_tree.specs.declared.type_name.TypeName.{TypeName}
 use Rattle.c_tree.specs.declared.named.Named.{Named}
 use Rattle.c_tree.specs.declared.item.InitialValue.{InitialValue}
@@ -40,41 +42,41 @@ variable-begins test so s c n bracket assign semicolon = made-begins test so (Sp
     (maybe-begins test so (Made (λ (p : Place × InitialValue). p.1) (Sign mark.Assign ⋅ SpellsInitial)) (Sign mark.Semicolon)
     (made-begins test so (Sign mark.Assign ⋅ SpellsInitial) (λ p. p.1) (then-begins test so (Sign mark.Assign) SpellsInitial assign)) semicolon))
 
-function-begins : (test : Placed Token → Bool) (so : Bool) (full : Bool) (h : Heading) → Begins test so (Sign mark.OpenParenthesis) → Begins test so (FunctionBehind full h)
-function-begins test so full h is = made-begins test so (Sign mark.OpenParenthesis ⋅ SpellsParameters full ⋅ Sign mark.CloseParenthesis ⋅ SpellsEnding full (is_some h.class)) _
-    (then-begins test so (Sign mark.OpenParenthesis) (SpellsParameters full ⋅ Sign mark.CloseParenthesis ⋅ SpellsEnding full (is_some h.class)) is)
+function-begins : (test : Placed Token → Bool) (so : Bool) (dialect : Dialect) (h : Heading) → Begins test so (Sign mark.OpenParenthesis) → Begins test so (FunctionBehind dialect h)
+function-begins test so dialect h is = made-begins test so (Sign mark.OpenParenthesis ⋅ SpellsParameters dialect ⋅ Sign mark.CloseParenthesis ⋅ SpellsEnding dialect (is_some h.class)) _
+    (then-begins test so (Sign mark.OpenParenthesis) (SpellsParameters dialect ⋅ Sign mark.CloseParenthesis ⋅ SpellsEnding dialect (is_some h.class)) is)
 
-module _ (full s : Bool) (c : Option TypeName) (n : Named) where
-  pub void_behind : c ≡ None → (before after : Tokens) (result : Result Item ReadFault) → Reads (FunctionBehind full (headed s None n)) Anything before after result → Reads (ItemBehind full (headed s c n) c) Anything before after result
-  void_behind is before after result part = subst (λ (o : Option TypeName). Reads (ItemBehind full (headed s o n) o) Anything before after result) (sym is) part
+module _ (dialect : Dialect) (s : Bool) (c : Option TypeName) (n : Named) where
+  pub void_behind : c ≡ None → (before after : Tokens) (result : Result Item ReadFault) → Reads (FunctionBehind dialect (headed s None n)) Anything before after result → Reads (ItemBehind dialect (headed s c n) c) Anything before after result
+  void_behind is before after result part = subst (λ (o : Option TypeName). Reads (ItemBehind dialect (headed s o n) o) Anything before after result) (sym is) part
 
   module _ (t : TypeName) (is : c ≡ Some t) (before after : Tokens) (result : Result Item ReadFault) where
-    pub called_behind : begins (is_mark mark.OpenParenthesis) before ≡ true → Reads (FunctionBehind full (headed s (Some t) n)) Anything before after result → Reads (ItemBehind full (headed s c n) c) Anything before after result
-    called_behind there part = subst (λ (o : Option TypeName). Reads (ItemBehind full (headed s o n) o) Anything before after result) (sym is)
+    pub called_behind : begins (is_mark mark.OpenParenthesis) before ≡ true → Reads (FunctionBehind dialect (headed s (Some t) n)) Anything before after result → Reads (ItemBehind dialect (headed s c n) c) Anything before after result
+    called_behind there part = subst (λ (o : Option TypeName). Reads (ItemBehind dialect (headed s o n) o) Anything before after result) (sym is)
         (handed
-        (at_second (all_left (ItemBehind full (headed s (Some t) n) (Some t)) Anything before)
+        (at_second (all_left (ItemBehind dialect (headed s (Some t) n) (Some t)) Anything before)
         (by_test (variable-begins (is_mark mark.OpenParenthesis) false s t n (sign_begins (is_mark mark.OpenParenthesis) false mark.OpenBracket (λ p. refl))
         (sign_begins (is_mark mark.OpenParenthesis) false mark.Assign (λ p. refl)) (sign_begins (is_mark mark.OpenParenthesis) false mark.Semicolon (λ p. refl))) there))
         (λ m follows. tt) after result part)
 
-    pub plain_behind : begins (is_mark mark.OpenParenthesis) before ≡ false → Reads (VariableBehind s t n) Anything before after result → Reads (ItemBehind full (headed s c n) c) Anything before after result
-    plain_behind none part = subst (λ (o : Option TypeName). Reads (ItemBehind full (headed s o n) o) Anything before after result) (sym is)
+    pub plain_behind : begins (is_mark mark.OpenParenthesis) before ≡ false → Reads (VariableBehind s t n) Anything before after result → Reads (ItemBehind dialect (headed s c n) c) Anything before after result
+    plain_behind none part = subst (λ (o : Option TypeName). Reads (ItemBehind dialect (headed s o n) o) Anything before after result) (sym is)
         (handed
-        (at_first (all_left (ItemBehind full (headed s (Some t) n) (Some t)) Anything before)
-        (by_test (function-begins (is_mark mark.OpenParenthesis) true full (headed s (Some t) n) (this_sign mark.OpenParenthesis)) none))
+        (at_first (all_left (ItemBehind dialect (headed s (Some t) n) (Some t)) Anything before)
+        (by_test (function-begins (is_mark mark.OpenParenthesis) true dialect (headed s (Some t) n) (this_sign mark.OpenParenthesis)) none))
         (λ m follows. tt) after result part)
 
-module _ (full : Bool) where
-  a_function : (h : Heading) → Sample (FunctionBehind full h)
+module _ (dialect : Dialect) where
+  a_function : (h : Heading) → Sample (FunctionBehind dialect h)
   a_function h = sample_of (λ p. function_of h p.1.0 p.1.1.1)
-      (both (the_sign mark.OpenParenthesis) (both (some_parameters full) (both (the_sign mark.CloseParenthesis) (an_ending full (is_some h.class)))))
+      (both (the_sign mark.OpenParenthesis) (both (some_parameters dialect) (both (the_sign mark.CloseParenthesis) (an_ending dialect (is_some h.class)))))
 
-  behind-sample : (h : Heading) (c : Option TypeName) → Sample (ItemBehind full h c)
+  behind-sample : (h : Heading) (c : Option TypeName) → Sample (ItemBehind dialect h c)
   behind-sample h None = a_function h
   behind-sample h (Some t) = let f = a_function h in (f.0, f.1, inr f.2)
 
   module _ (before at : Tokens) where
-    pub declared_stuck : Stuck SpellsHeading Anything before at → Stuck (SpellsDeclared full) Anything before at
+    pub declared_stuck : Stuck SpellsHeading Anything before at → Stuck (SpellsDeclared dialect) Anything before at
     declared_stuck part = record {
       taken = part.taken;
       split = part.split;
@@ -87,17 +89,17 @@ module _ (full : Bool) where
     }
 
     -- what stands behind depends on the type
-    pub declared_read : (h : Heading) → Reached SpellsHeading Anything before at h → Leaves (SpellsDeclared full) Anything before at (λ z. z) (ItemBehind full h h.class)
+    pub declared_read : (h : Heading) → Reached SpellsHeading Anything before at h → Leaves (SpellsDeclared dialect) Anything before at (λ z. z) (ItemBehind dialect h h.class)
     declared_read h part = record {
       taken = part.taken;
       split = part.split;
       back = λ z v text. (h, part.taken, v, refl, part.spelled, text);
       forth = λ y w m n text follows same looked.
           let l = part.only text.0 text.1 (text.2 ++ m) n text.4 tt (sym (append_assoc text.1 text.2 m) ∙ ap (λ (l : Tokens). l ++ m) (sym text.3) ∙ same) looked in
-          (y, text.2, refl, subst (λ (k : Heading). ItemBehind full k k.class y text.2) l.0 text.5, l.1);
+          (y, text.2, refl, subst (λ (k : Heading). ItemBehind dialect k k.class y text.2) l.0 text.5, l.1);
     }
 
-  declared-begins : (test : Placed Token → Bool) (so : Bool) → Begins test so (Word keyword.Static) → Begins test so (Word keyword.Void) → Begins test so SpellsType → Begins test so (SpellsDeclared full)
+  declared-begins : (test : Placed Token → Bool) (so : Bool) → Begins test so (Word keyword.Static) → Begins test so (Word keyword.Void) → Begins test so SpellsType → Begins test so (SpellsDeclared dialect)
   declared-begins test so static void class i w m text =
       ap (λ (l : Tokens). begins test (l ++ m)) text.3 ∙ ap (begins test) (append_assoc text.1 text.2 m)
       ∙ heading_begins test so static (result_begins test so void class) text.0 text.1 (text.2 ++ m) text.4
@@ -111,23 +113,23 @@ module _ (full : Bool) where
   pointer-begins : (test : Placed Token → Bool) (so : Bool) → Begins test so (Word keyword.Volatile) → Begins test so (Made item.Pointer SpellsPointer)
   pointer-begins test so is = made-begins test so SpellsPointer item.Pointer (made-begins test so _ _ (then-begins test so (Word keyword.Volatile) _ is))
 
-  full_begins : {X : Type 0} (test : Placed Token → Bool) (so : Bool) (A : X → Tokens → Type 0) → Begins test so A → Begins test so (InFull full A)
+  full_begins : {X : Type 0} (test : Placed Token → Bool) (so : Bool) (A : X → Tokens → Type 0) → Begins test so A → Begins test so (InFull dialect A)
   full_begins test so A is y w m text = is y w m text.1
 
-  declared-not : (w : Keyword) → ((p : Place) → is_word w (record { token = token.Keyword keyword.Static; place = p }) ≡ false) → ((p : Place) → is_word w (record { token = token.Keyword keyword.Void; place = p }) ≡ false) → Begins (is_word w) false SpellsType → Begins (is_word w) false (SpellsDeclared full)
+  declared-not : (w : Keyword) → ((p : Place) → is_word w (record { token = token.Keyword keyword.Static; place = p }) ≡ false) → ((p : Place) → is_word w (record { token = token.Keyword keyword.Void; place = p }) ≡ false) → Begins (is_word w) false SpellsType → Begins (is_word w) false (SpellsDeclared dialect)
   declared-not w static void class = declared-begins (is_word w) false (word_begins (is_word w) false keyword.Static static) (word_begins (is_word w) false keyword.Void void) class
 
   module _ (before : Tokens) where
     abbrev There : Keyword → Bool → Type 0
-    There w so = (full && begins (is_word w) before) ≡ so
+    There w so = (is_full dialect && begins (is_word w) before) ≡ so
 
-    whole : Leaves (SpellsItem full) Anything before before (λ z. z) (SpellsItem full)
-    whole = all_left (SpellsItem full) Anything before
+    whole : Leaves (SpellsItem dialect) Anything before before (λ z. z) (SpellsItem dialect)
+    whole = all_left (SpellsItem dialect) Anything before
 
-    pub typedef_there : There keyword.Typedef true → Leaves (SpellsItem full) Anything before before (λ z. z) SpellsTypedef
+    pub typedef_there : There keyword.Typedef true → Leaves (SpellsItem dialect) Anything before before (λ z. z) SpellsTypedef
     typedef_there there =
-        let word = and_right full (begins (is_word keyword.Typedef) before) there in
-        in_full
+        let word = and_right (is_full dialect) (begins (is_word keyword.Typedef) before) there in
+        in_full dialect
         (at_first whole
         (either_way (by_test (full_begins (is_word keyword.Typedef) false _ (extern-begins (is_word keyword.Typedef) false (word_begins (is_word keyword.Typedef) false keyword.Extern (λ p. refl)))) word)
         (either_way (by_test (full_begins (is_word keyword.Typedef) false _ (pointer-begins (is_word keyword.Typedef) false (word_begins (is_word keyword.Typedef) false keyword.Volatile (λ p. refl)))) word)
@@ -135,43 +137,43 @@ module _ (full : Bool) where
         (type_begins (is_word keyword.Typedef) false
         (integer_begins (is_word keyword.Typedef) false (λ p. refl) (λ p. refl) (λ p. refl) (λ p. refl) (λ p. refl) (λ p. refl) (λ p. refl) (λ p. refl))
         (word_begins (is_word keyword.Typedef) false keyword.Bool (λ p. refl)) (name_begins (is_word keyword.Typedef) false (λ n p. refl)))) word))))
-        (and_left full (begins (is_word keyword.Typedef) before) there)
+        (and_left (is_full dialect) (begins (is_word keyword.Typedef) before) there)
 
-    no_typedef : There keyword.Typedef false → Leaves (SpellsItem full) Anything before before (λ z. z) (InFull full (Made item.External SpellsExternal) ∣ InFull full (Made item.Pointer SpellsPointer) ∣ SpellsDeclared full)
-    no_typedef none = at_second whole (by_full full (typedef-begins (is_word keyword.Typedef) true (this_word keyword.Typedef)) none)
+    no_typedef : There keyword.Typedef false → Leaves (SpellsItem dialect) Anything before before (λ z. z) (InFull dialect (Made item.External SpellsExternal) ∣ InFull dialect (Made item.Pointer SpellsPointer) ∣ SpellsDeclared dialect)
+    no_typedef none = at_second whole (by_full dialect (typedef-begins (is_word keyword.Typedef) true (this_word keyword.Typedef)) none)
 
-    pub extern_there : There keyword.Typedef false → There keyword.Extern true → Leaves (SpellsItem full) Anything before before item.External SpellsExternal
+    pub extern_there : There keyword.Typedef false → There keyword.Extern true → Leaves (SpellsItem dialect) Anything before before item.External SpellsExternal
     extern_there none there =
-        let word = and_right full (begins (is_word keyword.Extern) before) there in
+        let word = and_right (is_full dialect) (begins (is_word keyword.Extern) before) there in
         unmake
-        (in_full
+        (in_full dialect
         (at_first (no_typedef none)
         (either_way (by_test (full_begins (is_word keyword.Extern) false _ (pointer-begins (is_word keyword.Extern) false (word_begins (is_word keyword.Extern) false keyword.Volatile (λ p. refl)))) word)
         (by_test (declared-not keyword.Extern (λ p. refl) (λ p. refl)
         (type_begins (is_word keyword.Extern) false
         (integer_begins (is_word keyword.Extern) false (λ p. refl) (λ p. refl) (λ p. refl) (λ p. refl) (λ p. refl) (λ p. refl) (λ p. refl) (λ p. refl))
         (word_begins (is_word keyword.Extern) false keyword.Bool (λ p. refl)) (name_begins (is_word keyword.Extern) false (λ n p. refl)))) word)))
-        (and_left full (begins (is_word keyword.Extern) before) there))
+        (and_left (is_full dialect) (begins (is_word keyword.Extern) before) there))
 
-    no_extern : There keyword.Typedef false → There keyword.Extern false → Leaves (SpellsItem full) Anything before before (λ z. z) (InFull full (Made item.Pointer SpellsPointer) ∣ SpellsDeclared full)
-    no_extern none other = at_second (no_typedef none) (by_full full (extern-begins (is_word keyword.Extern) true (this_word keyword.Extern)) other)
+    no_extern : There keyword.Typedef false → There keyword.Extern false → Leaves (SpellsItem dialect) Anything before before (λ z. z) (InFull dialect (Made item.Pointer SpellsPointer) ∣ SpellsDeclared dialect)
+    no_extern none other = at_second (no_typedef none) (by_full dialect (extern-begins (is_word keyword.Extern) true (this_word keyword.Extern)) other)
 
-    pub pointer_there : There keyword.Typedef false → There keyword.Extern false → There keyword.Volatile true → Leaves (SpellsItem full) Anything before before item.Pointer SpellsPointer
+    pub pointer_there : There keyword.Typedef false → There keyword.Extern false → There keyword.Volatile true → Leaves (SpellsItem dialect) Anything before before item.Pointer SpellsPointer
     pointer_there none other there =
-        let word = and_right full (begins (is_word keyword.Volatile) before) there in
+        let word = and_right (is_full dialect) (begins (is_word keyword.Volatile) before) there in
         unmake
-        (in_full
+        (in_full dialect
         (at_first (no_extern none other)
         (by_test (declared-not keyword.Volatile (λ p. refl) (λ p. refl)
         (type_begins (is_word keyword.Volatile) false
         (integer_begins (is_word keyword.Volatile) false (λ p. refl) (λ p. refl) (λ p. refl) (λ p. refl) (λ p. refl) (λ p. refl) (λ p. refl) (λ p. refl))
         (word_begins (is_word keyword.Volatile) false keyword.Bool (λ p. refl)) (name_begins (is_word keyword.Volatile) false (λ n p. refl)))) word))
-        (and_left full (begins (is_word keyword.Volatile) before) there))
+        (and_left (is_full dialect) (begins (is_word keyword.Volatile) before) there))
 
-    pub declared_there : There keyword.Typedef false → There keyword.Extern false → There keyword.Volatile false → Leaves (SpellsItem full) Anything before before (λ z. z) (SpellsDeclared full)
-    declared_there none other neither = at_second (no_extern none other) (by_full full (pointer-begins (is_word keyword.Volatile) true (this_word keyword.Volatile)) neither)
+    pub declared_there : There keyword.Typedef false → There keyword.Extern false → There keyword.Volatile false → Leaves (SpellsItem dialect) Anything before before (λ z. z) (SpellsDeclared dialect)
+    declared_there none other neither = at_second (no_extern none other) (by_full dialect (pointer-begins (is_word keyword.Volatile) true (this_word keyword.Volatile)) neither)
 
-  item-some : Begins any_token true (SpellsItem full)
+  item-some : Begins any_token true (SpellsItem dialect)
   item-some z w m text = elim text [
     | inl a ↦ typedef-begins any_token true (word_begins any_token true keyword.Typedef (λ p. refl)) z w m a.1
     | inr (inl a) ↦ extern-begins any_token true (word_begins any_token true keyword.Extern (λ p. refl)) z w m a.1
@@ -183,7 +185,7 @@ module _ (full : Bool) where
         (word_begins any_token true keyword.Bool (λ p. refl)) (name_begins any_token true (λ n p. refl))) z w m a
   ]
 
-  pub items_listed : Listed (SpellsItem full) any_token true Anything TheEnd
+  pub items_listed : Listed (SpellsItem dialect) any_token true Anything TheEnd
   items_listed = record {
     some = item-some;
     starts = item-some;

@@ -5,6 +5,8 @@ use Rattle.hw_text.specs.declared.place.Place.{Place}
 use Rattle.hw_text.specs.Language.{◌⋅◌, Made, Maybe}
 use Rattle.hw_text.specs.Reading.{begins, Begins, Anything, BeginsWith, BeginsWithout, Reached, Stuck, Leaves}
 use Rattle.hw_text.proofs.Reading.{made-begins, then-begins, maybe-begins}
+use Rattle.c_tree.specs.declared.dialect.Dialect.{Dialect}
+use Rattle.c_tree.specs.Dialects.{is_full}
 use Rattle.c_tree.specs.declared.item.InitialValue.{InitialValue}
 use Rattle.c_tree.specs.declared.statement.Statement.{Statement}
 use Rattle.c_parse.specs.declared.token.Token.{Token}
@@ -48,52 +50,52 @@ module _ (before : Tokens) where
   pub given_there : begins (is_mark mark.Assign) before ≡ true → Leaves Given (BeginsWithout (is_mark mark.Assign)) before before (λ p. Some p.1) (Sign mark.Assign ⋅ SpellsInitial)
   given_there there = unmake (is_there (all_left Given (BeginsWithout (is_mark mark.Assign)) before) (λ m follows. follows) there)
 
-module _ (full : Bool) where
+module _ (dialect : Dialect) where
   pub close_ends : (y : Place) (w m : Tokens) → Sign mark.CloseBrace y w → Anything m → BeginsWith ends_body (w ++ m)
   close_ends y w m text follows = sign_begins ends_body true mark.CloseBrace (λ p. refl) y w m text
 
-  pub return_ends : (y : _) (w m : Tokens) → (Word keyword.Return ⋅ SpellsRightSide full ⋅ Sign mark.Semicolon ⋅ Sign mark.CloseBrace) y w → Anything m → BeginsWith ends_body (w ++ m)
-  return_ends y w m text follows = then-begins ends_body true (Word keyword.Return) (SpellsRightSide full ⋅ Sign mark.Semicolon ⋅ Sign mark.CloseBrace) (word_begins ends_body true keyword.Return (λ p. refl)) y w m text
+  pub return_ends : (y : _) (w m : Tokens) → (Word keyword.Return ⋅ SpellsRightSide dialect ⋅ Sign mark.Semicolon ⋅ Sign mark.CloseBrace) y w → Anything m → BeginsWith ends_body (w ++ m)
+  return_ends y w m text follows = then-begins ends_body true (Word keyword.Return) (SpellsRightSide dialect ⋅ Sign mark.Semicolon ⋅ Sign mark.CloseBrace) (word_begins ends_body true keyword.Return (λ p. refl)) y w m text
 
-  pub a_body : (returns : Bool) → Sample (SpellsBody full returns)
-  a_body true = sample_of (λ p. (p.0, Some p.1.1.0)) (both (no_statements full) (both (the_word keyword.Return) (both (a_right full) (both (the_sign mark.Semicolon) (the_sign mark.CloseBrace)))))
-  a_body false = sample_of (λ p. (p.0, None)) (both (no_statements full) (the_sign mark.CloseBrace))
+  pub a_body : (returns : Bool) → Sample (SpellsBody dialect returns)
+  a_body true = sample_of (λ p. (p.0, Some p.1.1.0)) (both (no_statements dialect) (both (the_word keyword.Return) (both (a_right dialect) (both (the_sign mark.Semicolon) (the_sign mark.CloseBrace)))))
+  a_body false = sample_of (λ p. (p.0, None)) (both (no_statements dialect) (the_sign mark.CloseBrace))
 
-  pub an_ending : (returns : Bool) → Sample (SpellsEnding full returns)
+  pub an_ending : (returns : Bool) → Sample (SpellsEnding dialect returns)
   an_ending returns =
       let s = both (the_sign mark.OpenBrace) (a_body returns) in
       (Some s.0.1, s.1, inr (s.0, refl, s.2))
 
   module _ (returns : Bool) (before : Tokens) where
-    pub body_left : (so : Bool) → returns ≡ so → Leaves (SpellsBody full returns) Anything before before (λ z. z) (SpellsBody full so)
-    body_left so is = subst (λ (b : Bool). Leaves (SpellsBody full returns) Anything before before (λ z. z) (SpellsBody full b)) is (all_left (SpellsBody full returns) Anything before)
+    pub body_left : (so : Bool) → returns ≡ so → Leaves (SpellsBody dialect returns) Anything before before (λ z. z) (SpellsBody dialect so)
+    body_left so is = subst (λ (b : Bool). Leaves (SpellsBody dialect returns) Anything before before (λ z. z) (SpellsBody dialect b)) is (all_left (SpellsBody dialect returns) Anything before)
 
-    pub prototype_there : (full && begins (is_mark mark.Semicolon) before) ≡ true → Leaves (SpellsEnding full returns) Anything before before (λ p. None) (Sign mark.Semicolon)
-    prototype_there there = unmake (in_full (at_first (all_left (SpellsEnding full returns) Anything before)
-        (by_test (made-begins (is_mark mark.Semicolon) false (Sign mark.OpenBrace ⋅ SpellsBody full returns) (λ p. Some p.1)
-        (then-begins (is_mark mark.Semicolon) false (Sign mark.OpenBrace) (SpellsBody full returns) (sign_begins (is_mark mark.Semicolon) false mark.OpenBrace (λ p. refl))))
-        (and_right full (begins (is_mark mark.Semicolon) before) there)))
-        (and_left full (begins (is_mark mark.Semicolon) before) there))
+    pub prototype_there : (is_full dialect && begins (is_mark mark.Semicolon) before) ≡ true → Leaves (SpellsEnding dialect returns) Anything before before (λ p. None) (Sign mark.Semicolon)
+    prototype_there there = unmake (in_full dialect (at_first (all_left (SpellsEnding dialect returns) Anything before)
+        (by_test (made-begins (is_mark mark.Semicolon) false (Sign mark.OpenBrace ⋅ SpellsBody dialect returns) (λ p. Some p.1)
+        (then-begins (is_mark mark.Semicolon) false (Sign mark.OpenBrace) (SpellsBody dialect returns) (sign_begins (is_mark mark.Semicolon) false mark.OpenBrace (λ p. refl))))
+        (and_right (is_full dialect) (begins (is_mark mark.Semicolon) before) there)))
+        (and_left (is_full dialect) (begins (is_mark mark.Semicolon) before) there))
 
-    pub body_there : (full && begins (is_mark mark.Semicolon) before) ≡ false → Leaves (SpellsEnding full returns) Anything before before (λ p. Some p.1) (Sign mark.OpenBrace ⋅ SpellsBody full returns)
-    body_there none = unmake (at_second (all_left (SpellsEnding full returns) Anything before)
-        (by_full full (made-begins (is_mark mark.Semicolon) true (Sign mark.Semicolon) (λ p. None) (this_sign mark.Semicolon)) none))
+    pub body_there : (is_full dialect && begins (is_mark mark.Semicolon) before) ≡ false → Leaves (SpellsEnding dialect returns) Anything before before (λ p. Some p.1) (Sign mark.OpenBrace ⋅ SpellsBody dialect returns)
+    body_there none = unmake (at_second (all_left (SpellsEnding dialect returns) Anything before)
+        (by_full dialect (made-begins (is_mark mark.Semicolon) true (Sign mark.Semicolon) (λ p. None) (this_sign mark.Semicolon)) none))
 
-    pub body_stuck : {at : Tokens} → Stuck (SpellsStatements full) (BeginsWith ends_body) before at → Stuck (SpellsBody full returns) Anything before at
+    pub body_stuck : {at : Tokens} → Stuck (SpellsStatements dialect) (BeginsWith ends_body) before at → Stuck (SpellsBody dialect returns) Anything before at
     body_stuck {at = at} part = by_kind returns refl
       where
-        by_kind : (so : Bool) → returns ≡ so → Stuck (SpellsBody full returns) Anything before at
-        by_kind true is = stuck_by (unmake (body_left true is)) return_ends (both (the_word keyword.Return) (both (a_right full) (both (the_sign mark.Semicolon) (the_sign mark.CloseBrace)))) part
+        by_kind : (so : Bool) → returns ≡ so → Stuck (SpellsBody dialect returns) Anything before at
+        by_kind true is = stuck_by (unmake (body_left true is)) return_ends (both (the_word keyword.Return) (both (a_right dialect) (both (the_sign mark.Semicolon) (the_sign mark.CloseBrace)))) part
         by_kind false is = stuck_by (unmake (body_left false is)) close_ends (the_sign mark.CloseBrace) part
 
-    pub no_return_left : returns ≡ false → {at : Tokens} {all : List Statement} → Reached (SpellsStatements full) (BeginsWith ends_body) before at all → Leaves (SpellsBody full returns) Anything before at (λ p. (all, None)) (Sign mark.CloseBrace)
+    pub no_return_left : returns ≡ false → {at : Tokens} {all : List Statement} → Reached (SpellsStatements dialect) (BeginsWith ends_body) before at all → Leaves (SpellsBody dialect returns) Anything before at (λ p. (all, None)) (Sign mark.CloseBrace)
     no_return_left is part = passed_by (unmake (body_left false is)) close_ends part
 
-    pub return_left : returns ≡ true → {at : Tokens} {all : List Statement} → Reached (SpellsStatements full) (BeginsWith ends_body) before at all → Leaves (SpellsBody full returns) Anything before at (λ p. (all, Some p.1.0)) (Word keyword.Return ⋅ SpellsRightSide full ⋅ Sign mark.Semicolon ⋅ Sign mark.CloseBrace)
+    pub return_left : returns ≡ true → {at : Tokens} {all : List Statement} → Reached (SpellsStatements dialect) (BeginsWith ends_body) before at all → Leaves (SpellsBody dialect returns) Anything before at (λ p. (all, Some p.1.0)) (Word keyword.Return ⋅ SpellsRightSide dialect ⋅ Sign mark.Semicolon ⋅ Sign mark.CloseBrace)
     return_left is part = passed_by (unmake (body_left true is)) return_ends part
 
 pub right-semicolon-close : (F : Tokens → Type 0) (y : Place × Place) (w m : Tokens) → (Sign mark.Semicolon ⋅ Sign mark.CloseBrace) y w → F m → RightEnds (w ++ m)
 right-semicolon-close F y w m text follows = then-begins right_goes_on false (Sign mark.Semicolon) (Sign mark.CloseBrace) (sign_begins right_goes_on false mark.Semicolon (λ p. refl)) y w m text
 
-pub some_parameters : (full : Bool) → Sample (SpellsParameters full)
-some_parameters full = let v = the_word keyword.Void in ([], v.1, inl (v.0, refl, v.2))
+pub some_parameters : (dialect : Dialect) → Sample (SpellsParameters dialect)
+some_parameters dialect = let v = the_word keyword.Void in ([], v.1, inl (v.0, refl, v.2))

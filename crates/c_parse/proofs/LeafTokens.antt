@@ -1,10 +1,11 @@
 -- Tokens that stand for a value or a word: behind none of them begins an expression, and none of them ends one.
-use Rattle.std.proofs.Common.{◌≡◌, ◌∙◌, refl, sym, ap, subst, ℕ, ◌≤◌, ◌++◌, List, [], ◌∷◌, length, Bool, true, false, Option, Some, inl, inr, arith}
+use Rattle.std.proofs.Common.{◌≡◌, ◌∙◌, refl, sym, ap, subst, ℕ, ◌≤◌, ◌++◌, [], ◌∷◌, length, Bool, true, false, Option, Some, inl, inr, arith}
 use Rattle.std.specs.Str.{bytes_eq}
 use Rattle.std.proofs.lemmas.Bool.{false≢true}
 use Rattle.hw_text.specs.Language.{One}
 use Rattle.hw_text.specs.declared.place.Place.{Place}
 use Rattle.hw_text.specs.declared.placed.Placed.{Placed}
+use Rattle.c_tree.specs.declared.identifier.Identifier.{Identifier}
 use Rattle.c_tree.specs.declared.integer_type.IntegerType.{IntegerType}
 use Rattle.c_tree.specs.declared.integer_type.IntegerType.TheVariants as integer
 use Rattle.c_tree.specs.declared.named.Named.{Named}
@@ -76,12 +77,12 @@ name-unled _ at x is = refl
 pub name-leaf : (x : Named) (ws : Tokens) → Name x ws → IsLeaf ws
 name-leaf x ws text = (text.0, text.1, name-plain text.0.token text.0.place x text.2, name-unled text.0.token text.0.place x text.2)
 
-again-unled : (n : List ℕ) (t : Token) (at p : Place) → again_in n t at ≡ Some p → Plain t × (leads t ≡ false)
+again-unled : (n : Identifier) (t : Token) (at p : Place) → again_in n t at ≡ Some p → Plain t × (leads t ≡ false)
 again-unled n (token.Mark m) at p is = absurd (none-some p is)
 again-unled n (token.Keyword w) at p is = absurd (none-some p is)
 again-unled n _ at p is = ((refl, refl, refl), refl)
 
-pub again-leaf : (n : List ℕ) (p : Place) (ws : Tokens) → One (again_of n) p ws → IsLeaf ws
+pub again-leaf : (n : Identifier) (p : Place) (ws : Tokens) → One (again_of n) p ws → IsLeaf ws
 again-leaf n p ws text = let known = again-unled n text.0.token text.0.place p text.2 in (text.0, text.1, known.0, known.1)
 
 literal-unled : (t : Token) (at : Place) (x : Literal) → literal_in t at ≡ Some x → leads t ≡ false

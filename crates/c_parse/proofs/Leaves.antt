@@ -1,6 +1,6 @@
 -- Texts of one token, and with which tokens they begin.
 use Rattle.std.proofs.Common.{◌≡◌, ◌∙◌, refl, sym, ap, List, [], ◌∷◌, ℕ, Bool, true, false, Option, Some, None}
-use Rattle.std.specs.Prelude.{codes, is_some}
+use Rattle.std.specs.Prelude.{is_some}
 use Rattle.std.specs.Str.{bytes_eq}
 use Rattle.std.proofs.lemmas.Bool.{false≢true}
 use Rattle.std.proofs.lemmas.Option.{same_Some}
@@ -21,6 +21,10 @@ use Rattle.c_parse.specs.declared.keyword.Keyword.{Keyword}
 use Rattle.c_parse.specs.declared.keyword.Keyword.TheVariants as keyword
 use Rattle.c_parse.specs.declared.mark.Mark.{Mark}
 use Rattle.c_parse.specs.declared.mark.Mark.TheVariants as mark
+use Rattle.c_tree.specs.Spellings.{zero}
+use Rattle.c_tree.specs.declared.identifier.Identifier.{Identifier}
+use Rattle.c_tree.specs.declared.numeral.Numeral.{Numeral}
+use Rattle.c_parse.specs.Samples.{letter_a}
 use Rattle.c_parse.specs.Tokens.{start}
 use Rattle.c_parse.specs.Keywords.{keyword_text, all_keywords, keyword_among}
 use Rattle.c_parse.specs.Marks.{mark_text, all_marks}
@@ -41,13 +45,13 @@ pub the_word : (w : Keyword) → Sample (Word w)
 the_word w = let s = a_word w in (s.1, s.0 ∷ [], (s.0, refl, s.2))
 
 pub the_name : Sample Name
-the_name = (record { name = codes "a"; place = start }, put (token.Name (codes "a")) start ∷ [], (put (token.Name (codes "a")) start, refl, refl))
+the_name = (record { name = letter_a; place = start }, put (token.Name letter_a) start ∷ [], (put (token.Name letter_a) start, refl, refl))
 
 pub the_zero : Sample (One zero_of)
-the_zero = (start, put (token.Literal (codes "0")) start ∷ [], (put (token.Literal (codes "0")) start, refl, refl))
+the_zero = (start, put (token.Literal zero) start ∷ [], (put (token.Literal zero) start, refl, refl))
 
 pub the_literal : Sample (One literal_of)
-the_literal = (record { numeral = codes "0"; place = start }, put (token.Literal (codes "0")) start ∷ [], (put (token.Literal (codes "0")) start, refl, refl))
+the_literal = (record { numeral = zero; place = start }, put (token.Literal zero) start ∷ [], (put (token.Literal zero) start, refl, refl))
 
 -- where a mark stands by its spelling, it stands
 found-so : (b : Bool) (at p : Place) → found b at ≡ Some p → b ≡ true
@@ -165,14 +169,14 @@ module _ (test : Placed Token → Bool) (so : Bool) where
   pub sign_begins : (m : Mark) → ((p : Place) → test (put (token.Mark m) p) ≡ so) → Begins test so (Sign m)
   sign_begins m is = one-begins test so (mark_of m) (λ t p it. sign-at m is t.token t.place p it)
 
-  name-at : ((n : List ℕ) (p : Place) → test (put (token.Name n) p) ≡ so) → (t : Token) (at : Place) (x : Named) → name_of (put t at) ≡ Some x → test (put t at) ≡ so
+  name-at : ((n : Identifier) (p : Place) → test (put (token.Name n) p) ≡ so) → (t : Token) (at : Place) (x : Named) → name_of (put t at) ≡ Some x → test (put t at) ≡ so
   name-at is (token.Name n) at x it = is n at
   name-at is (token.Reserved n) at x it = absurd (none-some x it)
   name-at is (token.Literal n) at x it = absurd (none-some x it)
   name-at is (token.Keyword n) at x it = absurd (none-some x it)
   name-at is (token.Mark n) at x it = absurd (none-some x it)
 
-  pub name_begins : ((n : List ℕ) (p : Place) → test (put (token.Name n) p) ≡ so) → Begins test so Name
+  pub name_begins : ((n : Identifier) (p : Place) → test (put (token.Name n) p) ≡ so) → Begins test so Name
   name_begins is = one-begins test so name_of (λ t x it. name-at is t.token t.place x it)
 
   integer-at : ((c : IntegerType) (p : Place) → test (put (token.Keyword (keyword.Integer c)) p) ≡ so) → (t : Token) (at : Place) (x : Place × IntegerType) → integer_of (put t at) ≡ Some x → test (put t at) ≡ so
@@ -211,17 +215,17 @@ module _ (test : Placed Token → Bool) (so : Bool) where
   pub integer_begins : ((p : Place) → test (put (token.Keyword (keyword.Integer integer.I8)) p) ≡ so) → ((p : Place) → test (put (token.Keyword (keyword.Integer integer.I16)) p) ≡ so) → ((p : Place) → test (put (token.Keyword (keyword.Integer integer.I32)) p) ≡ so) → ((p : Place) → test (put (token.Keyword (keyword.Integer integer.I64)) p) ≡ so) → ((p : Place) → test (put (token.Keyword (keyword.Integer integer.U8)) p) ≡ so) → ((p : Place) → test (put (token.Keyword (keyword.Integer integer.U16)) p) ≡ so) → ((p : Place) → test (put (token.Keyword (keyword.Integer integer.U32)) p) ≡ so) → ((p : Place) → test (put (token.Keyword (keyword.Integer integer.U64)) p) ≡ so) → Begins test so (One integer_of)
   integer_begins a b c d e f g h = one-begins test so integer_of (λ t x it. integer-at (by_class a b c d e f g h) t.token t.place x it)
 
-  literal-at : ((n : List ℕ) (p : Place) → test (put (token.Literal n) p) ≡ so) → (t : Token) (at : Place) (x : Literal) → literal_of (put t at) ≡ Some x → test (put t at) ≡ so
+  literal-at : ((n : Numeral) (p : Place) → test (put (token.Literal n) p) ≡ so) → (t : Token) (at : Place) (x : Literal) → literal_of (put t at) ≡ Some x → test (put t at) ≡ so
   literal-at is (token.Literal n) at x it = is n at
   literal-at is (token.Reserved n) at x it = absurd (none-some x it)
   literal-at is (token.Name n) at x it = absurd (none-some x it)
   literal-at is (token.Keyword n) at x it = absurd (none-some x it)
   literal-at is (token.Mark n) at x it = absurd (none-some x it)
 
-  pub literal_begins : ((n : List ℕ) (p : Place) → test (put (token.Literal n) p) ≡ so) → Begins test so (One literal_of)
+  pub literal_begins : ((n : Numeral) (p : Place) → test (put (token.Literal n) p) ≡ so) → Begins test so (One literal_of)
   literal_begins is = one-begins test so literal_of (λ t x it. literal-at is t.token t.place x it)
 
-  pub signed_begins : ((n : List ℕ) (p : Place) → test (put (token.Literal n) p) ≡ so) → ((p : Place) → test (put (token.Mark mark.Minus) p) ≡ so) → Begins test so SpellsSigned
+  pub signed_begins : ((n : Numeral) (p : Place) → test (put (token.Literal n) p) ≡ so) → ((p : Place) → test (put (token.Mark mark.Minus) p) ≡ so) → Begins test so SpellsSigned
   signed_begins literal minus = either-begins test so (Made plain_literal (One literal_of)) (Made negative_literal (Sign mark.Minus ⋅ One literal_of))
       (made-begins test so (One literal_of) plain_literal (literal_begins literal))
       (made-begins test so (Sign mark.Minus ⋅ One literal_of) negative_literal (then-begins test so (Sign mark.Minus) (One literal_of) (sign_begins mark.Minus minus)))

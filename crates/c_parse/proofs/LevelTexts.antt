@@ -1,11 +1,13 @@
 -- What has been read of an expression of one level, as its reader goes.
-use Rattle.std.proofs.Common.{◌≡◌, refl, sym, ap, subst, ℕ, ◌+◌, ◌<◌, ◌≤◌, [], ◌∷◌, ◌++◌, length, drop, length-drop, arith, Bool, true, false, Option, Some, None}
+use Rattle.std.proofs.Common.{◌≡◌, refl, sym, ap, subst, ℕ, ◌+◌, ◌<◌, ◌≤◌, [], ◌∷◌, ◌++◌, length, drop, length-drop, arith, true, false, Option, Some, None}
 use Rattle.std.specs.Prelude.{is_some}
 use Rattle.std.proofs.lemmas.Bool.{false≢true}
 use Rattle.hw_text.specs.Language.{One}
 use Rattle.hw_text.specs.Reading.{first, ahead, begins, Anything, Reached, Stuck, Leaves}
 use Rattle.hw_text.proofs.Reading.{refined, ahead-reached, never-longer, shorter}
 use Rattle.hw_text.specs.declared.place.Place.{Place}
+use Rattle.c_tree.specs.Starts.{start_in}
+use Rattle.c_tree.specs.declared.dialect.Dialect.{Dialect}
 use Rattle.c_tree.specs.declared.named.Named.{Named}
 use Rattle.c_tree.specs.declared.operator.BinaryOperator.{BinaryOperator}
 use Rattle.c_tree.specs.declared.expression.Expression.{Expression}
@@ -14,7 +16,7 @@ use Rattle.c_parse.specs.Values.{Tokens, name_token}
 use Rattle.c_parse.specs.Levels.{prefix_level}
 use Rattle.c_parse.specs.Operators.{binary_at, operates, Ends}
 use Rattle.c_parse.specs.Forms.{form_ahead}
-use Rattle.c_parse.specs.ExpressionGrammar.{start_in, chained, SpellsExpression, SpellsOperations, SpellsPrefix, chain, prefix}
+use Rattle.c_parse.specs.ExpressionGrammar.{chained, SpellsExpression, SpellsOperations, SpellsPrefix, chain, prefix}
 use Rattle.c_parse.specs.PartGrammar.{from_name}
 use Rattle.c_parse.proofs.Pieces.{whole}
 use Rattle.c_parse.proofs.Chains.{chain-read, right-stuck, right-read}
@@ -32,12 +34,12 @@ some-tokens : (w : Tokens) → (w ≡ [] → ⊥) → 0 < length w
 some-tokens [] none = absurd (none refl)
 some-tokens (t ∷ w) none = omega arith
 
-module _ (full : Bool) (n : ℕ) where
+module _ (dialect : Dialect) (n : ℕ) where
   abbrev OfLevel : Expression → Tokens → Type 0
-  OfLevel = SpellsExpression full n
+  OfLevel = SpellsExpression dialect n
 
   pub expression-some : (e : Expression) (w : Tokens) → OfLevel e w → 0 < length w
-  expression-some e w text = some-tokens w (λ none. some-form full n e w [] text (ap (λ (l : Tokens). form_ahead (l ++ [])) none))
+  expression-some e w text = some-tokens w (λ none. some-form dialect n e w [] text (ap (λ (l : Tokens). form_ahead (l ++ [])) none))
 
   -- a name that was passed is part of what is read from it on
   pub passed-shorter : (passed : Option Named) (ts after : Tokens) (e : Expression) → Reached OfLevel (Ends n) (from_name passed ts) after e → length after ≤ length ts
@@ -45,30 +47,30 @@ module _ (full : Bool) (n : ℕ) where
   passed-shorter (Some x) ts after e so = omega (arith, shorter OfLevel (Ends n) (name_token x ∷ ts) after e expression-some so)
 
   -- an expression of the tightest level is an operand
-  pub tightest : n ≡ prefix_level → (before : Tokens) → Leaves OfLevel (Ends n) before before (λ e. e) (SpellsPrefix full)
-  tightest is before = refined OfLevel (Ends n) before before (λ e. e) OfLevel (λ e. e) (SpellsPrefix full) (whole OfLevel (Ends n) before)
-      (λ e w text. prefix full n e w is text) narrows
+  pub tightest : n ≡ prefix_level → (before : Tokens) → Leaves OfLevel (Ends n) before before (λ e. e) (SpellsPrefix dialect)
+  tightest is before = refined OfLevel (Ends n) before before (λ e. e) OfLevel (λ e. e) (SpellsPrefix dialect) (whole OfLevel (Ends n) before)
+      (λ e w text. prefix dialect n e w is text) narrows
     where
-      narrows : (e : Expression) (w m : Tokens) → OfLevel e w → Ends n m → first (w ++ m) ≡ first before → (x : Expression) × (e ≡ x) × SpellsPrefix full x w
+      narrows : (e : Expression) (w m : Tokens) → OfLevel e w → Ends n m → first (w ++ m) ≡ first before → (x : Expression) × (e ≡ x) × SpellsPrefix dialect x w
       narrows e w m (chain f k x os us vs d ts low split_is split first_text rest) ends same = absurd (omega (arith, low, is))
       narrows e w m (prefix f k d ts tight text) ends same = (e, refl, text)
 
-  module _ (before at : Tokens) (left : Expression) (so : Leaves OfLevel (Ends n) before at (λ os. chained left os) (SpellsOperations full n)) where
+  module _ (before at : Tokens) (left : Expression) (so : Leaves OfLevel (Ends n) before at (λ os. chained left os) (SpellsOperations dialect n)) where
     pub level-read : ahead (binary_at n) at ≡ None → Reached OfLevel (Ends n) before at left
-    level-read none = chain-read full n before at left so (operator-none n at none)
+    level-read none = chain-read dialect n before at left so (operator-none n at none)
 
     module _ (o : Place × BinaryOperator) (there : ahead (binary_at n) at ≡ Some o) (mid : Tokens) (behind : mid ≡ drop 1 at) (after : Tokens) where
       operator : Reached (One (binary_at n)) Anything at mid o
       operator = ahead-reached (binary_at n) Anything at mid o there behind
 
-      pub right-operand-stuck : Stuck (SpellsExpression full (n + 1)) (Ends (n + 1)) mid after → Stuck OfLevel (Ends n) before after
-      right-operand-stuck part = right-stuck full n before at left so (operator-there n at o there) mid o operator after part
+      pub right-operand-stuck : Stuck (SpellsExpression dialect (n + 1)) (Ends (n + 1)) mid after → Stuck OfLevel (Ends n) before after
+      right-operand-stuck part = right-stuck dialect n before at left so (operator-there n at o there) mid o operator after part
 
-      pub operation-read : (right next : Expression) → next ≡ Binary (start_in left) o.1 o.0 left right → Reached (SpellsExpression full (n + 1)) (Ends (n + 1)) mid after right → Leaves OfLevel (Ends n) before after (λ os. chained next os) (SpellsOperations full n)
+      pub operation-read : (right next : Expression) → next ≡ Binary (start_in left) o.1 o.0 left right → Reached (SpellsExpression dialect (n + 1)) (Ends (n + 1)) mid after right → Leaves OfLevel (Ends n) before after (λ os. chained next os) (SpellsOperations dialect n)
       operation-read right next is part =
-          subst (λ (e : Expression). Leaves OfLevel (Ends n) before after (λ os. chained e os) (SpellsOperations full n)) (sym is)
-          (right-read full n before at left so (operator-there n at o there) mid o operator after right part)
+          subst (λ (e : Expression). Leaves OfLevel (Ends n) before after (λ os. chained e os) (SpellsOperations dialect n)) (sym is)
+          (right-read dialect n before at left so (operator-there n at o there) mid o operator after right part)
 
-      pub operation-shorter : (right : Expression) → Reached (SpellsExpression full (n + 1)) (Ends (n + 1)) mid after right → length after ≤ length at
+      pub operation-shorter : (right : Expression) → Reached (SpellsExpression dialect (n + 1)) (Ends (n + 1)) mid after right → length after ≤ length at
       operation-shorter right part =
-          omega (arith, never-longer (SpellsExpression full (n + 1)) (Ends (n + 1)) mid after right part, ap (λ (l : Tokens). length l) behind, length-drop 1 at)
+          omega (arith, never-longer (SpellsExpression dialect (n + 1)) (Ends (n + 1)) mid after right part, ap (λ (l : Tokens). length l) behind, length-drop 1 at)

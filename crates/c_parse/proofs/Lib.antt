@@ -1,8 +1,3 @@
-pub mod Allowed
-pub mod AllowedCalls
-pub mod AllowedExpressions
-pub mod AllowedStatements
-pub mod AllowedUnits
 pub mod ArgumentLists
 pub mod ArgumentTexts
 pub mod BaseChoice
@@ -23,7 +18,6 @@ pub mod ExplainedPlains
 pub mod ExplainedStatements
 pub mod ExplainedUnits
 pub mod ExplainedVariables
-pub mod ExpressionInduction
 pub mod FlawPlaces
 pub mod Flawless
 pub mod FormTokens
@@ -79,7 +73,6 @@ pub mod Samples
 pub mod SmallTexts
 pub mod Standing
 pub mod StatementChoices
-pub mod StatementInduction
 pub mod StatementTexts
 pub mod Steps
 pub mod ThreeParts
@@ -91,12 +84,11 @@ pub mod TwoTokens
 pub mod TypeTexts
 pub mod TypedefTexts
 pub mod UnitTexts
-pub mod UnplacedForms
-pub mod UnplacedStatements
-pub mod UserCalls
-pub mod UserExpressions
-pub mod UserItems
-pub mod UserStatements
+pub mod DialectCalls
+pub mod DialectExpressions
+pub mod DialectItems
+pub mod DialectStatements
+pub mod ClearRanges
 pub mod WholeUnits
 pub mod Windows
 pub mod Within
@@ -109,3 +101,10 @@ pub mod WrittenHeads
 pub mod WrittenOperands
 pub mod WrittenStatements
 pub mod WrittenUnits
+pub mod AcceptedUnits
+pub mod PrintedLimits
+pub mod SoundTokens
+pub mod SoundExpressions
+pub mod SoundStatements
+pub mod SoundUnits
+pub mod LiteralTokens

@@ -5,6 +5,9 @@ use Rattle.std.proofs.lemmas.Bool.{and_parts, false≢true}
 use Rattle.std.proofs.lemmas.Bool.Decides.{nat_tests}
 use Rattle.hw_text.specs.Name.{is_digit}
 use Rattle.c_tree.specs.Numerals.{is_in, begins_in, past_one, past_all, begins_hex, past_digits, past_numeral, numeral_type, is_empty, is_numeral}
+use Rattle.c_tree.specs.Spellings.{numeral_of}
+use Rattle.c_tree.proofs.Spellings.{numeral_of_bytes}
+use Rattle.c_tree.specs.declared.numeral.Numeral.{Numeral}
 use Rattle.c_tree.specs.Words.{begins_name, continues_name}
 use Rattle.c_tree.specs.declared.byte_class.ByteClass.{ByteClass}
 use Rattle.c_tree.specs.declared.byte_class.ByteClass.TheVariants.{Zero, Digit, HexDigit, BaseMark, Unsigned, Long}
@@ -92,9 +95,9 @@ digit-no-letter b h = grind (arith, nat_tests)
 digit-continues : (b : ℕ) → is_digit b ≡ true → continues_name b ≡ true
 digit-continues b h = grind (arith, nat_tests)
 
-literal-front : (n all rest : List ℕ) → all ≡ n ++ rest → past_numeral all ≡ rest → is_numeral n ≡ true → literal_token all ≡ Some (token.Literal n, rest)
+literal-front : (n all rest : List ℕ) (x : Numeral) → all ≡ n ++ rest → past_numeral all ≡ rest → numeral_of n ≡ Some x → literal_token all ≡ Some (token.Literal x, rest)
 unfolding literal_token
-literal-front n all rest is past numeral =
+literal-front n all rest x is past numeral =
     let width : length all - length rest ≡ length n = ap (λ (l : List ℕ). length l - length rest) is ∙ omega (arith, length-append n rest) in
     let spelling : take (length all - length (past_numeral all)) all ≡ n =
     ap (λ (l : List ℕ). take (length all - length l) all) past ∙ ap (λ (k : ℕ). take k all) width ∙ ap (λ (l : List ℕ). take (length n) l) is ∙ take-append_seam n rest in
@@ -105,13 +108,18 @@ unfolding token_at
 digit-front b bs h = rw (digit-no-letter b h, h) refl
 
 pub literal-digit : (n : List ℕ) → is_numeral n ≡ true → (b : ℕ) × (bs : List ℕ) × (n ≡ b ∷ bs) × (is_digit b ≡ true)
+unfolding is_numeral
 literal-digit [] h = absurd (false≢true h)
 literal-digit (b ∷ bs) h = (b, bs, refl, (and_parts (is_digit b) (is_empty (past_numeral (b ∷ bs)) && is_some (numeral_type (b ∷ bs))) h).0)
 
-pub literal-stands : (n rest : List ℕ) → is_numeral n ≡ true → Ended rest → StandsBefore n (token.Literal n) rest
-literal-stands [] rest numeral ended = absurd (false≢true numeral)
-literal-stands (b ∷ bs) rest numeral ended =
+stands-so : (n rest : List ℕ) (x : Numeral) → numeral_of n ≡ Some x → is_numeral n ≡ true → Ended rest → StandsBefore n (token.Literal x) rest
+unfolding is_numeral
+stands-so [] rest x is numeral ended = absurd (false≢true numeral)
+stands-so (b ∷ bs) rest x is numeral ended =
     let parts = and_parts (is_digit b) (is_empty (past_numeral (b ∷ bs)) && is_some (numeral_type (b ∷ bs))) numeral in
     let none = empty-is (past_numeral (b ∷ bs)) (and_parts (is_empty (past_numeral (b ∷ bs))) (is_some (numeral_type (b ∷ bs))) parts.1).0 in
     let past : past_numeral ((b ∷ bs) ++ rest) ≡ rest = numeral-over b bs rest ended ∙ ap (λ (l : List ℕ). l ++ rest) none in
-    (word-kept b (bs ++ rest) (digit-continues b parts.0), digit-front b (bs ++ rest) parts.0 ∙ literal-front (b ∷ bs) ((b ∷ bs) ++ rest) rest refl past numeral)
+    (word-kept b (bs ++ rest) (digit-continues b parts.0), digit-front b (bs ++ rest) parts.0 ∙ literal-front (b ∷ bs) ((b ∷ bs) ++ rest) rest x refl past is)
+
+pub literal-stands : (x : Numeral) (rest : List ℕ) → Ended rest → StandsBefore x.bytes (token.Literal x) rest
+literal-stands x rest ended = stands-so x.bytes rest x (numeral_of_bytes x) x.spelled ended

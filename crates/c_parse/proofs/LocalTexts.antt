@@ -6,6 +6,7 @@ use Rattle.hw_text.specs.declared.place.Place.{Place}
 use Rattle.hw_text.specs.Language.{◌⋅◌, Made, One}
 use Rattle.hw_text.specs.Reading.{begins, Begins, Leaves}
 use Rattle.hw_text.proofs.Reading.{made-begins, then-begins}
+use Rattle.c_tree.specs.declared.dialect.Dialect.{Dialect}
 use Rattle.c_tree.specs.declared.statement.LocalValue.{LocalValue}
 use Rattle.c_tree.specs.declared.statement.LocalValue.TheVariants as local
 use Rattle.c_parse.specs.declared.token.Token.{Token}
@@ -22,12 +23,12 @@ use Rattle.c_parse.proofs.RightTexts.{Beginnings, right_begins}
 pub a_zeros : Sample SpellsZeros
 a_zeros = sample_of (λ p. tt) (both (the_sign mark.OpenBrace) (both the_zero (the_sign mark.CloseBrace)))
 
-pub a_given : (full : Bool) → Sample (SpellsGiven full)
-a_given full = (local.Zero, a_zeros.1, inl (a_zeros.0, refl, a_zeros.2))
+pub a_given : (dialect : Dialect) → Sample (SpellsGiven dialect)
+a_given dialect = (local.Zero, a_zeros.1, inl (a_zeros.0, refl, a_zeros.2))
 
-pub a_local_value : (full : Bool) → Sample (SpellsLocalValue full)
-a_local_value full =
-    let s = both (the_sign mark.Assign) (a_given full) in
+pub a_local_value : (dialect : Dialect) → Sample (SpellsLocalValue dialect)
+a_local_value dialect =
+    let s = both (the_sign mark.Assign) (a_given dialect) in
     (s.0.1, s.1, inr (s.0, refl, s.2))
 
 -- behind what stands on the right stands a semicolon, or a parenthesis that closes
@@ -48,21 +49,21 @@ zeros-begin test so is = made-begins test so SpellsZeros (λ u. local.Zero)
 no_brace : Beginnings (is_mark mark.OpenBrace) false
 no_brace = record { name = λ n p. refl; literal = λ n p. refl; truth = λ p. refl; falsehood = λ p. refl; opening = λ p. refl; minus = λ p. refl; bang = λ p. refl; tilde = λ p. refl }
 
-module _ (full : Bool) (before : Tokens) where
-  given-begins : (test : Placed Token → Bool) (so : Bool) → Begins test so (Sign mark.Assign) → Begins test so (Made (λ (p : Place × LocalValue). p.1) (Sign mark.Assign ⋅ SpellsGiven full))
-  given-begins test so is = made-begins test so (Sign mark.Assign ⋅ SpellsGiven full) (λ p. p.1) (then-begins test so (Sign mark.Assign) (SpellsGiven full) is)
+module _ (dialect : Dialect) (before : Tokens) where
+  given-begins : (test : Placed Token → Bool) (so : Bool) → Begins test so (Sign mark.Assign) → Begins test so (Made (λ (p : Place × LocalValue). p.1) (Sign mark.Assign ⋅ SpellsGiven dialect))
+  given-begins test so is = made-begins test so (Sign mark.Assign ⋅ SpellsGiven dialect) (λ p. p.1) (then-begins test so (Sign mark.Assign) (SpellsGiven dialect) is)
 
-  pub array_there : begins (is_mark mark.OpenBracket) before ≡ true → Leaves (SpellsLocalValue full) RightEnds before before (λ v. v) SpellsZeroArray
-  array_there there = at_first (all_left (SpellsLocalValue full) RightEnds before)
+  pub array_there : begins (is_mark mark.OpenBracket) before ≡ true → Leaves (SpellsLocalValue dialect) RightEnds before before (λ v. v) SpellsZeroArray
+  array_there there = at_first (all_left (SpellsLocalValue dialect) RightEnds before)
       (by_test (given-begins (is_mark mark.OpenBracket) false (sign_begins (is_mark mark.OpenBracket) false mark.Assign (λ p. refl))) there)
 
-  pub no_array : begins (is_mark mark.OpenBracket) before ≡ false → Leaves (SpellsLocalValue full) RightEnds before before (λ p. p.1) (Sign mark.Assign ⋅ SpellsGiven full)
-  no_array none_there = unmake (at_second (all_left (SpellsLocalValue full) RightEnds before)
+  pub no_array : begins (is_mark mark.OpenBracket) before ≡ false → Leaves (SpellsLocalValue dialect) RightEnds before before (λ p. p.1) (Sign mark.Assign ⋅ SpellsGiven dialect)
+  no_array none_there = unmake (at_second (all_left (SpellsLocalValue dialect) RightEnds before)
       (by_test (array-begins (is_mark mark.OpenBracket) true (this_sign mark.OpenBracket)) none_there))
 
-module _ {full : Bool} {before at : Tokens} {build : LocalValue → LocalValue} (so : Leaves (SpellsLocalValue full) RightEnds before at build (SpellsGiven full)) where
-  pub zeros_there : begins (is_mark mark.OpenBrace) at ≡ true → Leaves (SpellsLocalValue full) RightEnds before at (λ u. build local.Zero) SpellsZeros
-  zeros_there there = unmake (at_first so (by_test (made-begins (is_mark mark.OpenBrace) false (SpellsRightSide full) local.Given (right_begins no_brace full)) there))
+module _ {dialect : Dialect} {before at : Tokens} {build : LocalValue → LocalValue} (so : Leaves (SpellsLocalValue dialect) RightEnds before at build (SpellsGiven dialect)) where
+  pub zeros_there : begins (is_mark mark.OpenBrace) at ≡ true → Leaves (SpellsLocalValue dialect) RightEnds before at (λ u. build local.Zero) SpellsZeros
+  zeros_there there = unmake (at_first so (by_test (made-begins (is_mark mark.OpenBrace) false (SpellsRightSide dialect) local.Given (right_begins no_brace dialect)) there))
 
-  pub right_there : begins (is_mark mark.OpenBrace) at ≡ false → Leaves (SpellsLocalValue full) RightEnds before at (λ r. build (local.Given r)) (SpellsRightSide full)
+  pub right_there : begins (is_mark mark.OpenBrace) at ≡ false → Leaves (SpellsLocalValue dialect) RightEnds before at (λ r. build (local.Given r)) (SpellsRightSide dialect)
   right_there none_there = unmake (at_second so (by_test (zeros-begin (is_mark mark.OpenBrace) true (this_sign mark.OpenBrace)) none_there))

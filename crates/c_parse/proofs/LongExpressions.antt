@@ -8,6 +8,7 @@ use Rattle.std.proofs.lemmas.Bool.{false≢true}
 use Rattle.std.proofs.lemmas.List.Sums.{sum_by-append}
 use Rattle.std.proofs.lemmas.Option.{same_Some}
 use Rattle.hw_text.specs.declared.placed.Placed.{Placed}
+use Rattle.c_tree.specs.declared.dialect.Dialect.TheVariants.{User}
 use Rattle.c_tree.specs.declared.expression.Expression.{Expression}
 use Rattle.c_parse.specs.declared.token.Token.{Token}
 use Rattle.c_parse.specs.declared.token.Token.TheVariants as token
@@ -82,9 +83,9 @@ left-inside us (t ∷ ws) after d e level is =
           sym (ap (λ (l : Tokens). shut l + e) joined) ∙ both.1 ∙ ap opened joined,
         )
 
-module _ (ts : Tokens) (x : Expression) (text : SpellsWhole false x ts) where
+module _ (ts : Tokens) (x : Expression) (text : SpellsWhole User x ts) where
   expression-left : (after : Tokens) → (left [] (ts ++ after) ≡ length ts + left ts after) × (shut ts + 0 ≡ opened ts)
-  expression-left after = left-inside [] ts after 0 0 refl (expression-closed false loosest_level x ts text 0)
+  expression-left after = left-inside [] ts after 0 0 refl (expression-closed User loosest_level x ts text 0)
 
   -- it has as many tokens as spell it, up to what ends it
   pub expression-ended : (after : Tokens) (t : Placed Token) → ends t.token ≡ true → expression_length (ts ++ t ∷ after) ≡ length ts
@@ -106,7 +107,7 @@ module _ (ts : Tokens) (x : Expression) (text : SpellsWhole false x ts) where
   front-inside n = by (inside 0 (take n ts)) refl
     where
       whole : option_and_then (λ e. inside e (drop n ts)) (inside 0 (take n ts)) ≡ Some 0
-      whole = sym (inside-append (take n ts) (drop n ts) 0) ∙ ap (inside 0) (take-append-drop n ts) ∙ expression-closed false loosest_level x ts text 0
+      whole = sym (inside-append (take n ts) (drop n ts) 0) ∙ ap (inside 0) (take-append-drop n ts) ∙ expression-closed User loosest_level x ts text 0
 
       by : (o : Option ℕ) → inside 0 (take n ts) ≡ o → (e : ℕ) × (inside 0 (take n ts) ≡ Some e)
       by None is = absurd (none-some 0 (sym (ap (option_and_then (λ e. inside e (drop n ts))) is) ∙ whole))
@@ -122,7 +123,7 @@ module _ (ts : Tokens) (x : Expression) (text : SpellsWhole false x ts) where
   no-call : (us after : Tokens) → us ≡ ts → 500 < length us → begins_call (take 501 (us ++ after)) ≡ false
   no-call [] after is many = absurd (omega (arith, many))
   no-call (t ∷ []) after is many = absurd (omega (arith, many))
-  no-call (t ∷ u ∷ us) after is many = ap begins_as_call is' ∙ expression-no-call false loosest_level x ts [] text refl
+  no-call (t ∷ u ∷ us) after is many = ap begins_as_call is' ∙ expression-no-call User loosest_level x ts [] text refl
     where
       is' : t ∷ u ∷ us ++ [] ≡ ts ++ []
       is' = ap (λ (l : Tokens). l ++ []) is

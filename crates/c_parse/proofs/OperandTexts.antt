@@ -1,9 +1,11 @@
 -- What an operand is, by the token ahead.
-use Rattle.std.proofs.Common.{◌≡◌, ◌∙◌, refl, sym, ap, subst, ℕ, ◌+◌, List, ◌++◌, Bool, append_assoc, inl, inr}
+use Rattle.std.proofs.Common.{◌≡◌, ◌∙◌, refl, sym, ap, subst, ℕ, ◌+◌, List, ◌++◌, append_assoc, inl, inr}
 use Rattle.hw_text.specs.Language.{One, ◌⋅◌, Made, ◌∣◌}
 use Rattle.hw_text.specs.Reading.{first, Anything, Reached, Stuck, Leaves}
 use Rattle.hw_text.proofs.Reading.{refined, unmade}
 use Rattle.hw_text.specs.declared.place.Place.{Place}
+use Rattle.c_tree.specs.Starts.{started_at, value_of}
+use Rattle.c_tree.specs.declared.dialect.Dialect.{Dialect}
 use Rattle.c_tree.specs.declared.integer_type.IntegerType.{IntegerType}
 use Rattle.c_tree.specs.declared.named.Named.{Named}
 use Rattle.c_tree.specs.declared.operator.UnaryOperator.{UnaryOperator}
@@ -20,8 +22,8 @@ use Rattle.c_parse.specs.Values.{Tokens}
 use Rattle.c_parse.specs.Levels.{prefix_level}
 use Rattle.c_parse.specs.Operators.{unary_of, Ends}
 use Rattle.c_parse.specs.Forms.{form_ahead}
-use Rattle.c_parse.specs.ExpressionGrammar.{Sign, InFull, started_at, SpellsExpression, SpellsPrefix, SpellsLvalue, SpellsParts, SpellsWhole, chain, prefix, number, truth, value, parenthesised, unary, cast, lvalue}
-use Rattle.c_parse.specs.PartGrammar.{value_of, SpellsNumber, SpellsTruth, SpellsPointed, SpellsTarget}
+use Rattle.c_parse.specs.ExpressionGrammar.{Sign, InFull, SpellsExpression, SpellsPrefix, SpellsLvalue, SpellsParts, SpellsWhole, chain, prefix, number, truth, value, parenthesised, unary, cast, lvalue}
+use Rattle.c_parse.specs.PartGrammar.{SpellsNumber, SpellsTruth, SpellsPointed, SpellsTarget}
 use Rattle.c_parse.proofs.Pieces.{whole}
 use Rattle.c_parse.proofs.TwoParts as two
 use Rattle.c_parse.proofs.SmallTexts.{operand-text}
@@ -41,73 +43,73 @@ pointed_of p at = Value at (record { base = base.Pointed at p.0; parts = p.1 })
 abbrev pub enclosed_of : Expression × Place → Place → Expression
 enclosed_of p at = started_at at p.0
 
-abbrev pub CastForm : Bool → (Place → Expression) → Tokens → Type 0
-CastForm full = Made cast_of (SpellsTarget ⋅ SpellsPrefix full)
+abbrev pub CastForm : Dialect → (Place → Expression) → Tokens → Type 0
+CastForm dialect = Made cast_of (SpellsTarget ⋅ SpellsPrefix dialect)
 
-abbrev pub PointedForm : Bool → (Place → Expression) → Tokens → Type 0
-PointedForm full = InFull full (Made pointed_of (SpellsPointed ⋅ SpellsParts full))
+abbrev pub PointedForm : Dialect → (Place → Expression) → Tokens → Type 0
+PointedForm dialect = InFull dialect (Made pointed_of (SpellsPointed ⋅ SpellsParts dialect))
 
-abbrev pub EnclosedForm : Bool → (Place → Expression) → Tokens → Type 0
-EnclosedForm full = Made enclosed_of (SpellsWhole full ⋅ Sign mark.CloseParenthesis)
+abbrev pub EnclosedForm : Dialect → (Place → Expression) → Tokens → Type 0
+EnclosedForm dialect = Made enclosed_of (SpellsWhole dialect ⋅ Sign mark.CloseParenthesis)
 
-abbrev pub BehindOpening : Bool → (Place → Expression) → Tokens → Type 0
-BehindOpening full = CastForm full ∣ PointedForm full ∣ EnclosedForm full
+abbrev pub BehindOpening : Dialect → (Place → Expression) → Tokens → Type 0
+BehindOpening dialect = CastForm dialect ∣ PointedForm dialect ∣ EnclosedForm dialect
 
 abbrev pub at_opening : Place × (Place → Expression) → Expression
 at_opening p = p.1 p.0
 
-abbrev pub OpenedForm : Bool → Expression → Tokens → Type 0
-OpenedForm full = Made at_opening (Sign mark.OpenParenthesis ⋅ BehindOpening full)
+abbrev pub OpenedForm : Dialect → Expression → Tokens → Type 0
+OpenedForm dialect = Made at_opening (Sign mark.OpenParenthesis ⋅ BehindOpening dialect)
 
-abbrev pub PrefixedForm : Bool → Expression → Tokens → Type 0
-PrefixedForm full = Made unary_at (One unary_of ⋅ SpellsPrefix full)
+abbrev pub PrefixedForm : Dialect → Expression → Tokens → Type 0
+PrefixedForm dialect = Made unary_at (One unary_of ⋅ SpellsPrefix dialect)
 
-abbrev pub ValueForm : Bool → Expression → Tokens → Type 0
-ValueForm full = Made value_of (SpellsLvalue full)
+abbrev pub ValueForm : Dialect → Expression → Tokens → Type 0
+ValueForm dialect = Made value_of (SpellsLvalue dialect)
 
 -- the operands of each form
-abbrev pub OfForm : Bool → Form → Expression → Tokens → Type 0
-OfForm full form.Parenthesis = OpenedForm full
-OfForm full form.Operator = PrefixedForm full
-OfForm full form.Literal = SpellsNumber
-OfForm full form.Truth = SpellsTruth
-OfForm full form.Name = ValueForm full
-OfForm full form.Nothing = λ e w. ⊥
+abbrev pub OfForm : Dialect → Form → Expression → Tokens → Type 0
+OfForm dialect form.Parenthesis = OpenedForm dialect
+OfForm dialect form.Operator = PrefixedForm dialect
+OfForm dialect form.Literal = SpellsNumber
+OfForm dialect form.Truth = SpellsTruth
+OfForm dialect form.Name = ValueForm dialect
+OfForm dialect form.Nothing = λ e w. ⊥
 
-module _ (full : Bool) where
-  opened-back : (e : Expression) (w : Tokens) → OpenedForm full e w → SpellsPrefix full e w
+module _ (dialect : Dialect) where
+  opened-back : (e : Expression) (w : Tokens) → OpenedForm dialect e w → SpellsPrefix dialect e w
   opened-back e w (p, made_of, (us, vs, split, opening, inl (q, is, (cs, xs, split_rest, (r, class_is, (ks, qs, split_class, class, closing)), operand)))) =
-      cast full p.0 r.1 r.0 q.1 us ks qs xs e w
+      cast dialect p.0 r.1 r.0 q.1 us ks qs xs e w
       (made_of ∙ ap (λ (f : Place → Expression). f p.0) is ∙ ap (λ (c : Place × IntegerType). Cast p.0 c.1 p.0 q.1) class_is)
       (split ∙ ap (λ (l : Tokens). us ++ l) (split_rest ∙ ap (λ (l : Tokens). l ++ xs) split_class ∙ append_assoc ks qs xs))
       opening class closing operand
   opened-back e w (p, made_of, (us, vs, split, opening, inr (inl (full_is, (q, is, (ns, ps, split_rest, (r, name_is, pointer), parts)))))) =
       let l : Lvalue = record { base = base.Pointed p.0 r.1.0; parts = q.1 } in
-      value full l e w
+      value dialect l e w
       (made_of ∙ ap (λ (f : Place → Expression). f p.0) is ∙ ap (λ (x : Named). pointed_of (x, q.1) p.0) name_is)
-      (lvalue full (base.Pointed p.0 r.1.0) q.1 (us ++ ns) ps l w refl
+      (lvalue dialect (base.Pointed p.0 r.1.0) q.1 (us ++ ns) ps l w refl
       (split ∙ ap (λ (l : Tokens). us ++ l) split_rest ∙ sym (append_assoc us ns ps))
       (inr (inl (full_is, ((p.0, r), refl, (us, ns, refl, opening, pointer))))) parts)
   opened-back e w (p, made_of, (us, vs, split, opening, inr (inr (q, is, (xs, cs, split_rest, inner, closing))))) =
-      parenthesised full p.0 q.1 q.0 us xs cs e w (made_of ∙ ap (λ (f : Place → Expression). f p.0) is)
+      parenthesised dialect p.0 q.1 q.0 us xs cs e w (made_of ∙ ap (λ (f : Place → Expression). f p.0) is)
       (split ∙ ap (λ (l : Tokens). us ++ l) split_rest) opening inner closing
 
-  back : (g : Form) (e : Expression) (w : Tokens) → OfForm full g e w → SpellsPrefix full e w
+  back : (g : Form) (e : Expression) (w : Tokens) → OfForm dialect g e w → SpellsPrefix dialect e w
   back form.Parenthesis e w text = opened-back e w text
-  back form.Operator e w (p, is, (os, us, split, operator, operand)) = unary full p.0 p.1 os us e w is split operator operand
-  back form.Literal e w (l, is, one) = number full l e w is one
-  back form.Truth e w (p, is, one) = truth full p e w is one
-  back form.Name e w (l, is, text) = value full l e w is text
+  back form.Operator e w (p, is, (os, us, split, operator, operand)) = unary dialect p.0 p.1 os us e w is split operator operand
+  back form.Literal e w (l, is, one) = number dialect l e w is one
+  back form.Truth e w (p, is, one) = truth dialect p e w is one
+  back form.Name e w (l, is, text) = value dialect l e w is text
   back form.Nothing e w text = absurd text
 
   -- a text is one of the form with which it begins
-  of : (g : Form) (e : Expression) (w m : Tokens) → form_ahead (w ++ m) ≡ g → OfForm full g e w → OfForm full (form_ahead (w ++ m)) e w
-  of g e w m is text = subst (λ (h : Form). OfForm full h e w) (sym is) text
+  of : (g : Form) (e : Expression) (w m : Tokens) → form_ahead (w ++ m) ≡ g → OfForm dialect g e w → OfForm dialect (form_ahead (w ++ m)) e w
+  of g e w m is text = subst (λ (h : Form). OfForm dialect h e w) (sym is) text
 
-  value-forth : (e : Expression) (l : Lvalue) (w m : Tokens) → e ≡ value_of l → SpellsLvalue full l w → OfForm full (form_ahead (w ++ m)) e w
+  value-forth : (e : Expression) (l : Lvalue) (w m : Tokens) → e ≡ value_of l → SpellsLvalue dialect l w → OfForm dialect (form_ahead (w ++ m)) e w
   value-forth e l w m is (lvalue f b ps us vs k ts l_is split (inl (x, b_is, name)) rest) =
       of form.Name e w m (behind-form form.Name us vs w m split (name-begins x us (vs ++ m) name))
-      (l, is, lvalue full b ps us vs l w l_is split (inl (x, b_is, name)) rest)
+      (l, is, lvalue dialect b ps us vs l w l_is split (inl (x, b_is, name)) rest)
   value-forth e l w m is (lvalue f b ps us vs k ts l_is split (inr (inl (full_is, (p, b_is, (os, more, split_base, opening, pointer))))) rest) =
       let split_all = split ∙ ap (λ (l : Tokens). l ++ vs) split_base ∙ append_assoc os more vs in
       of form.Parenthesis e w m (behind-form form.Parenthesis os (more ++ vs) w m split_all (sign-begins mark.OpenParenthesis p.0 os ((more ++ vs) ++ m) opening)) (
@@ -118,9 +120,9 @@ module _ (full : Bool) where
   value-forth e l w m is (lvalue f b ps us vs k ts l_is split (inr (inr (full_is, (p, b_is, (ns, more, split_base, name, arrow))))) rest) =
       of form.Name e w m
       (behind-form form.Name ns (more ++ vs) w m (split ∙ ap (λ (l : Tokens). l ++ vs) split_base ∙ append_assoc ns more vs) (name-begins p.0 ns ((more ++ vs) ++ m) name))
-      (l, is, lvalue full b ps us vs l w l_is split (inr (inr (full_is, (p, b_is, (ns, more, split_base, name, arrow))))) rest)
+      (l, is, lvalue dialect b ps us vs l w l_is split (inr (inr (full_is, (p, b_is, (ns, more, split_base, name, arrow))))) rest)
 
-  forth : (e : Expression) (w m : Tokens) → SpellsPrefix full e w → OfForm full (form_ahead (w ++ m)) e w
+  forth : (e : Expression) (w m : Tokens) → SpellsPrefix dialect e w → OfForm dialect (form_ahead (w ++ m)) e w
   forth e w m (number f l d ts is one) = of form.Literal e w m (literal-begins l w m one) (l, is, one)
   forth e w m (truth f p d ts is one) = of form.Truth e w m (truth-begins p w m one) (p, is, one)
   forth e w m (value f l d ts is text) = value-forth e l w m is text
@@ -144,44 +146,44 @@ module _ (full : Bool) where
       )
 
   -- with what no operand begins, no expression does
-  pub some-form : (n : ℕ) (e : Expression) (w m : Tokens) → SpellsExpression full n e w → form_ahead (w ++ m) ≡ form.Nothing → ⊥
+  pub some-form : (n : ℕ) (e : Expression) (w m : Tokens) → SpellsExpression dialect n e w → form_ahead (w ++ m) ≡ form.Nothing → ⊥
   some-form n e w m (chain f k x os us vs d ts low is split first rest) nothing =
       some-form (n + 1) x us (vs ++ m) first
       (ap form_ahead (sym (append_assoc us vs m)) ∙ ap (λ (l : Tokens). form_ahead (l ++ m)) (sym split) ∙ nothing)
-  some-form n e w m (prefix f k d ts tight text) nothing = subst (λ (g : Form). OfForm full g e w) nothing (forth e w m text)
+  some-form n e w m (prefix f k d ts tight text) nothing = subst (λ (g : Form). OfForm dialect g e w) nothing (forth e w m text)
 
   module _ (before : Tokens) where
     abbrev Operand : Expression → Tokens → Type 0
-    Operand = SpellsPrefix full
+    Operand = SpellsPrefix dialect
 
-    pub form-there : (g : Form) → form_ahead before ≡ g → Leaves Operand (Ends prefix_level) before before (λ e. e) (OfForm full g)
-    form-there g there = refined Operand (Ends prefix_level) before before (λ e. e) Operand (λ e. e) (OfForm full g) (whole Operand (Ends prefix_level) before) (back g)
-        (λ e w m text follows same. (e, refl, subst (λ (h : Form). OfForm full h e w) (first-form (w ++ m) before same ∙ there) (forth e w m text)))
+    pub form-there : (g : Form) → form_ahead before ≡ g → Leaves Operand (Ends prefix_level) before before (λ e. e) (OfForm dialect g)
+    form-there g there = refined Operand (Ends prefix_level) before before (λ e. e) Operand (λ e. e) (OfForm dialect g) (whole Operand (Ends prefix_level) before) (back g)
+        (λ e w m text follows same. (e, refl, subst (λ (h : Form). OfForm dialect h e w) (first-form (w ++ m) before same ∙ there) (forth e w m text)))
 
     -- what begins with a name, or with nothing that begins an operand
-    pub value-there : (g : Form) → (g ≡ form.Parenthesis → ⊥) → (g ≡ form.Operator → ⊥) → (g ≡ form.Literal → ⊥) → (g ≡ form.Truth → ⊥) → form_ahead before ≡ g → Leaves Operand (Ends prefix_level) before before value_of (SpellsLvalue full)
+    pub value-there : (g : Form) → (g ≡ form.Parenthesis → ⊥) → (g ≡ form.Operator → ⊥) → (g ≡ form.Literal → ⊥) → (g ≡ form.Truth → ⊥) → form_ahead before ≡ g → Leaves Operand (Ends prefix_level) before before value_of (SpellsLvalue dialect)
     value-there form.Parenthesis none no_operator no_literal no_truth there = absurd (none refl)
     value-there form.Operator none no_operator no_literal no_truth there = absurd (no_operator refl)
     value-there form.Literal none no_operator no_literal no_truth there = absurd (no_literal refl)
     value-there form.Truth none no_operator no_literal no_truth there = absurd (no_truth refl)
     value-there form.Name none no_operator no_literal no_truth there =
-        refined Operand (Ends prefix_level) before before (λ e. e) (ValueForm full) value_of (SpellsLvalue full) (form-there form.Name there)
+        refined Operand (Ends prefix_level) before before (λ e. e) (ValueForm dialect) value_of (SpellsLvalue dialect) (form-there form.Name there)
         (λ l w text. (l, refl, text)) (λ e w m text follows same. text)
     value-there form.Nothing none no_operator no_literal no_truth there =
-        refined Operand (Ends prefix_level) before before (λ e. e) Operand value_of (SpellsLvalue full) (whole Operand (Ends prefix_level) before)
-        (λ l w text. value full l (value_of l) w refl text)
-        (λ e w m text follows same. absurd (subst (λ (h : Form). OfForm full h e w) (first-form (w ++ m) before same ∙ there) (forth e w m text)))
+        refined Operand (Ends prefix_level) before before (λ e. e) Operand value_of (SpellsLvalue dialect) (whole Operand (Ends prefix_level) before)
+        (λ l w text. value dialect l (value_of l) w refl text)
+        (λ e w m text follows same. absurd (subst (λ (h : Form). OfForm dialect h e w) (first-form (w ++ m) before same ∙ there) (forth e w m text)))
 
     module _ (there : form_ahead before ≡ form.Operator) where
       operator_ahead : Leaves Operand (Ends prefix_level) before before unary_at (One unary_of ⋅ Operand)
       operator_ahead = unmade Operand (Ends prefix_level) before before (λ e. e) unary_at (One unary_of ⋅ Operand) (form-there form.Operator there)
 
       pub operator-stuck : (at : Tokens) → Stuck (One unary_of) Anything before at → Stuck Operand (Ends prefix_level) before at
-      operator-stuck = two.first-stuck Operand (Ends prefix_level) before before unary_at (One unary_of) Operand Anything (Ends prefix_level) operator_ahead (free Operand (Ends prefix_level)) (λ m follows. follows) (operand-text full)
+      operator-stuck = two.first-stuck Operand (Ends prefix_level) before before unary_at (One unary_of) Operand Anything (Ends prefix_level) operator_ahead (free Operand (Ends prefix_level)) (λ m follows. follows) (operand-text dialect)
 
       module _ (at : Tokens) (p : Place × UnaryOperator) (one : Reached (One unary_of) Anything before at p) (after : Tokens) where
         pub operand-stuck : Stuck Operand (Ends prefix_level) at after → Stuck Operand (Ends prefix_level) before after
-        operand-stuck = two.second-stuck Operand (Ends prefix_level) before before unary_at (One unary_of) Operand Anything (Ends prefix_level) operator_ahead (free Operand (Ends prefix_level)) (λ m follows. follows) (operand-text full) at p one after
+        operand-stuck = two.second-stuck Operand (Ends prefix_level) before before unary_at (One unary_of) Operand Anything (Ends prefix_level) operator_ahead (free Operand (Ends prefix_level)) (λ m follows. follows) (operand-text dialect) at p one after
 
         pub prefixed-read : (x : Expression) → Reached Operand (Ends prefix_level) at after x → Reached Operand (Ends prefix_level) before after (Unary p.0 p.1 p.0 x)
-        prefixed-read = two.both-read Operand (Ends prefix_level) before before unary_at (One unary_of) Operand Anything (Ends prefix_level) operator_ahead (free Operand (Ends prefix_level)) (λ m follows. follows) (operand-text full) at p one after
+        prefixed-read = two.both-read Operand (Ends prefix_level) before before unary_at (One unary_of) Operand Anything (Ends prefix_level) operator_ahead (free Operand (Ends prefix_level)) (λ m follows. follows) (operand-text dialect) at p one after

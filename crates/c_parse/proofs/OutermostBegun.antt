@@ -2,6 +2,7 @@
 use Rattle.std.proofs.Common.{◌≡◌, ◌∙◌, refl, sym, ap, subst, List, [], ◌++◌, append_assoc, append-nil, Bool, true, false, inl, inr}
 use Rattle.std.specs.Prelude.{is_some}
 use Rattle.hw_text.specs.Language.{Each, ◌⋅◌}
+use Rattle.c_tree.specs.declared.dialect.Dialect.TheVariants.{User}
 use Rattle.c_tree.specs.declared.expression.Argument.{Argument}
 use Rattle.c_tree.specs.declared.expression.Expression.{Expression}
 use Rattle.c_parse.specs.declared.keyword.Keyword.TheVariants as keyword
@@ -19,7 +20,7 @@ use Rattle.c_parse.proofs.LeafTokens.{sign-led, return-led}
 use Rattle.c_parse.proofs.Within.{regrouped}
 
 abbrev IsBegun : Tokens → Tokens → Type 0
-IsBegun us es = Led us × ((x : Expression) × SpellsWhole false x es)
+IsBegun us es = Led us × ((x : Expression) × SpellsWhole User x es)
 
 -- what stands so in a text, with these tokens before it
 abbrev Begun : Tokens → (Tokens → Tokens → Tokens → Type 0) → Type 0
@@ -28,7 +29,7 @@ Begun b M = (us es vs : Tokens) → M us es vs → IsBegun (b ++ us) es
 moved : (b ws ms us es : Tokens) → us ≡ ws ++ ms → IsBegun ((b ++ ws) ++ ms) es → IsBegun (b ++ us) es
 moved b ws ms us es split begun = (subst Led (append_assoc b ws ms ∙ ap (λ (l : Tokens). b ++ l) (sym split)) begun.0, begun.1)
 
-all-begun : (b : Tokens) → Led b → Begun b (All (SpellsWhole false))
+all-begun : (b : Tokens) → Led b → Begun b (All (SpellsWhole User))
 all-begun b led us es vs (x, none, nothing, text) = (subst Led (sym (ap (λ (l : Tokens). b ++ l) none ∙ append-nil b)) led, (x, text))
 
 behind-begun : {X : Type 0} (A : X → Tokens → Type 0) (M : Tokens → Tokens → Tokens → Type 0) (b : Tokens) → ((x : X) (w : Tokens) → A x w → Begun (b ++ w) M) → Begun b (A ▸ M)
@@ -42,15 +43,15 @@ either-begun M N b one other us es vs (inl there) = one us es vs there
 either-begun M N b one other us es vs (inr there) = other us es vs there
 
 abbrev Others : List Argument → Tokens → Type 0
-Others = Each (BehindComma (SpellsArgument false))
+Others = Each (BehindComma (SpellsArgument User))
 
 later-argument-begun : (b : Tokens) → Begun b InLaterArgument
-later-argument-begun b = behind-begun (Sign mark.Comma) (All (SpellsWhole false)) b (λ p w comma. all-begun (b ++ w) (sign-led mark.Comma p w comma refl b))
+later-argument-begun b = behind-begun (Sign mark.Comma) (All (SpellsWhole User)) b (λ p w comma. all-begun (b ++ w) (sign-led mark.Comma p w comma refl b))
 
 arguments-begun : (b : Tokens) → Led b → Begun b InArguments
 arguments-begun b led =
-    either-begun (All (SpellsWhole false) ◂ Others) (SpellsArgument false ▸ Others ▸ InLaterArgument ◂ Others) b (before-begun (All (SpellsWhole false)) Others b (all-begun b led))
-    (behind-begun (SpellsArgument false) (Others ▸ InLaterArgument ◂ Others) b
+    either-begun (All (SpellsWhole User) ◂ Others) (SpellsArgument User ▸ Others ▸ InLaterArgument ◂ Others) b (before-begun (All (SpellsWhole User)) Others b (all-begun b led))
+    (behind-begun (SpellsArgument User) (Others ▸ InLaterArgument ◂ Others) b
     (λ x w first. behind-begun Others (InLaterArgument ◂ Others) (b ++ w) (λ xs v rest. before-begun InLaterArgument Others ((b ++ w) ++ v) (later-argument-begun ((b ++ w) ++ v)))))
 
 call-begun : (b : Tokens) → Begun b InCall
@@ -61,16 +62,16 @@ call-begun b =
     (arguments-begun ((b ++ w) ++ v) (sign-led mark.OpenParenthesis p v opening refl (b ++ w)))))
 
 right-begun : (b : Tokens) → Led b → Begun b InRightSide
-right-begun b led = either-begun InCall (All (SpellsWhole false)) b (call-begun b) (all-begun b led)
+right-begun b led = either-begun InCall (All (SpellsWhole User)) b (call-begun b) (all-begun b led)
 
 index-begun : (b : Tokens) → Begun b InIndex
 index-begun b =
-    behind-begun (Sign mark.OpenBracket) (All (SpellsWhole false) ◂ Sign mark.CloseBracket) b
-    (λ p w opening. before-begun (All (SpellsWhole false)) (Sign mark.CloseBracket) (b ++ w) (all-begun (b ++ w) (sign-led mark.OpenBracket p w opening refl b)))
+    behind-begun (Sign mark.OpenBracket) (All (SpellsWhole User) ◂ Sign mark.CloseBracket) b
+    (λ p w opening. before-begun (All (SpellsWhole User)) (Sign mark.CloseBracket) (b ++ w) (all-begun (b ++ w) (sign-led mark.OpenBracket p w opening refl b)))
 
 parts-begun : (b : Tokens) → Begun b InParts
 parts-begun b =
-    behind-begun (SpellsParts false) (InIndex ◂ SpellsParts false) b (λ ps w parts. before-begun InIndex (SpellsParts false) (b ++ w) (index-begun (b ++ w)))
+    behind-begun (SpellsParts User) (InIndex ◂ SpellsParts User) b (λ ps w parts. before-begun InIndex (SpellsParts User) (b ++ w) (index-begun (b ++ w)))
 
 given-begun : (b : Tokens) → Begun b InGiven
 given-begun b = behind-begun (Sign mark.Assign) InRightSide b (λ p w assign. right-begun (b ++ w) (sign-led mark.Assign p w assign refl b))
@@ -83,9 +84,9 @@ local-begun b =
 
 assignment-begun : (b : Tokens) → Begun b InAssignment
 assignment-begun b =
-    either-begun (SpellsBase false ▸ InParts ◂ Assigned) (SpellsLvalue false ▸ InGiven ◂ Sign mark.Semicolon) b
-    (behind-begun (SpellsBase false) (InParts ◂ Assigned) b (λ x w base. before-begun InParts Assigned (b ++ w) (parts-begun (b ++ w))))
-    (behind-begun (SpellsLvalue false) (InGiven ◂ Sign mark.Semicolon) b (λ l w target. before-begun InGiven (Sign mark.Semicolon) (b ++ w) (given-begun (b ++ w))))
+    either-begun (SpellsBase User ▸ InParts ◂ Assigned) (SpellsLvalue User ▸ InGiven ◂ Sign mark.Semicolon) b
+    (behind-begun (SpellsBase User) (InParts ◂ Assigned) b (λ x w base. before-begun InParts Assigned (b ++ w) (parts-begun (b ++ w))))
+    (behind-begun (SpellsLvalue User) (InGiven ◂ Sign mark.Semicolon) b (λ l w target. before-begun InGiven (Sign mark.Semicolon) (b ++ w) (given-begun (b ++ w))))
 
 plain-begun : (b : Tokens) → Begun b InPlain
 plain-begun b =
@@ -128,18 +129,18 @@ mutual
 
 body-begun : (returns : Bool) (b : Tokens) → Begun b (InBody returns)
 body-begun true b =
-    let returned = Word keyword.Return ⋅ SpellsRightSide false ⋅ Sign mark.Semicolon ⋅ Sign mark.CloseBrace in
+    let returned = Word keyword.Return ⋅ SpellsRightSide User ⋅ Sign mark.Semicolon ⋅ Sign mark.CloseBrace in
     let ending = Sign mark.Semicolon ⋅ Sign mark.CloseBrace in
-    either-begun (InStatements ◂ returned) (SpellsStatements false ▸ InReturned ◂ ending) b (before-begun InStatements returned b (statements-begun b))
-    (behind-begun (SpellsStatements false) (InReturned ◂ ending) b
+    either-begun (InStatements ◂ returned) (SpellsStatements User ▸ InReturned ◂ ending) b (before-begun InStatements returned b (statements-begun b))
+    (behind-begun (SpellsStatements User) (InReturned ◂ ending) b
     (λ ss w text. before-begun InReturned ending (b ++ w)
     (behind-begun (Word keyword.Return) InRightSide (b ++ w) (λ p v word. right-begun ((b ++ w) ++ v) (return-led p v (b ++ w) word)))))
 body-begun false b = before-begun InStatements (Sign mark.CloseBrace) b (statements-begun b)
 
 function-begun : (returns : Bool) (b : Tokens) → Begun b (InFunction returns)
 function-begun returns b =
-    behind-begun (Sign mark.OpenParenthesis) (SpellsParameters false ▸ Sign mark.CloseParenthesis ▸ Sign mark.OpenBrace ▸ InBody returns) b
-    (λ p w opening. behind-begun (SpellsParameters false) (Sign mark.CloseParenthesis ▸ Sign mark.OpenBrace ▸ InBody returns) (b ++ w)
+    behind-begun (Sign mark.OpenParenthesis) (SpellsParameters User ▸ Sign mark.CloseParenthesis ▸ Sign mark.OpenBrace ▸ InBody returns) b
+    (λ p w opening. behind-begun (SpellsParameters User) (Sign mark.CloseParenthesis ▸ Sign mark.OpenBrace ▸ InBody returns) (b ++ w)
     (λ ps v parameters. behind-begun (Sign mark.CloseParenthesis) (Sign mark.OpenBrace ▸ InBody returns) ((b ++ w) ++ v)
     (λ q u closing. behind-begun (Sign mark.OpenBrace) (InBody returns) (((b ++ w) ++ v) ++ u)
     (λ r x brace. body-begun returns ((((b ++ w) ++ v) ++ u) ++ x)))))
@@ -147,7 +148,7 @@ function-begun returns b =
 item-begun : (b : Tokens) → Begun b InItem
 item-begun b us es vs (h, ws, ms, split, heading, there) = moved b ws ms us es split (function-begun (is_some h.class) (b ++ ws) ms es vs there)
 
-pub unit-begun : (us es vs : Tokens) → InUnit us es vs → Led us × ((x : Expression) × SpellsWhole false x es)
+pub unit-begun : (us es vs : Tokens) → InUnit us es vs → Led us × ((x : Expression) × SpellsWhole User x es)
 unit-begun =
-    behind-begun (Each (SpellsItem false)) (InItem ◂ Each (SpellsItem false)) []
-    (λ is w items. before-begun InItem (Each (SpellsItem false)) w (item-begun w))
+    behind-begun (Each (SpellsItem User)) (InItem ◂ Each (SpellsItem User)) []
+    (λ is w items. before-begun InItem (Each (SpellsItem User)) w (item-begun w))

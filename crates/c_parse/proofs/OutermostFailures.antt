@@ -11,6 +11,7 @@ use Rattle.hw_text.specs.declared.code.Code.TheVariants as code
 use Rattle.hw_text.specs.declared.place.Place.{Place}
 use Rattle.hw_text.specs.declared.placed.Placed.{Placed}
 use Rattle.hw_text.specs.declared.refusal.Refusal.{Refusal}
+use Rattle.c_tree.specs.declared.dialect.Dialect.TheVariants.{User}
 use Rattle.c_parse.specs.declared.flaw.Flaw.{Flaw}
 use Rattle.c_parse.specs.declared.flaw.Flaw.TheVariants.{TooDeep, TooLong, EmptyRange}
 use Rattle.c_parse.specs.declared.token.Token.{Token}
@@ -44,7 +45,7 @@ not-there : (end : Place) (left : List ℕ) (o : Option (Placed Token)) → is_o
 not-there end left None = not-stopped left end
 not-there end left (Some t) = not-unexpected t.token t.place
 
-not-behind : (ts : Tokens) (end : Place) (left : List ℕ) (i : ℕ) (o : Option Place) → is_of_tokens (unexpected_behind false ts end left i o) ≡ false
+not-behind : (ts : Tokens) (end : Place) (left : List ℕ) (i : ℕ) (o : Option Place) → is_of_tokens (unexpected_behind User ts end left i o) ≡ false
 not-behind ts end left i (Some at) = refl
 not-behind ts end left i None = not-there end left (slice_get ts i)
 
@@ -62,8 +63,8 @@ pub failure : (ts : Tokens) (end : Place) (stop : List ℕ) (i n : ℕ) (at : Pl
 failure ts end stop i n at fails = elim fails.fails [
   | inl stops ↦ absurd (false≢true (sym (not-behind ts end stop i (link_of (token_before ts i) (slice_get ts i))) ∙ ap is_of_tokens (sym stops.1)))
   | inr found ↦
-      let known = told-flaw ts i (flaw_at false ts i) (limit (codes "tokens") at n 500) found.told refl in (
-        refused ts i end found.goes_on known.0 (λ k less. no-flaw-told ts k (flaw_at false ts k) (fails.sound k less)),
+      let known = told-flaw ts i (flaw_at User ts i) (limit (codes "tokens") at n 500) found.told refl in (
+        refused ts i end found.goes_on known.0 (λ k less. no-flaw-told ts k (flaw_at User ts k) (fails.sound k less)),
         ap (λ (r : Refusal). r.place) known.1,
       )
 ]

@@ -5,12 +5,13 @@ use Rattle.std.proofs.lemmas.Bool.{false≢true, cases_lt}
 use Rattle.std.proofs.lemmas.Option.{same_Some}
 use Rattle.hw_text.specs.WholeLists.{GoesOn}
 use Rattle.hw_text.specs.declared.place.Place.{Place}
+use Rattle.c_tree.specs.declared.dialect.Dialect.TheVariants.{User}
 use Rattle.c_tree.specs.declared.unit.Unit.{Unit as CUnit}
 use Rattle.c_parse.specs.declared.flaw.Flaw.TheVariants.{TooLong}
 use Rattle.c_parse.specs.Flaws.{begins_call, is_too_long, flaw_at}
 use Rattle.c_parse.specs.Levels.{loosest_level}
 use Rattle.c_parse.specs.Nesting.{opens, closes}
-use Rattle.c_parse.specs.Outermost.{IsTooLongAt}
+use Rattle.c_parse.specs.Outermost.{IsOutermost, IsTooLongAt}
 use Rattle.c_parse.specs.UnitGrammar.{SpellsUnit}
 use Rattle.c_parse.specs.Values.{Tokens}
 use Rattle.c_parse.proofs.CallBegins.{begins_call as begins_as_call}
@@ -24,6 +25,10 @@ use Rattle.c_parse.proofs.LongExpressions.{too-long}
 use Rattle.c_parse.proofs.TokenKinds.{none-some}
 use Rattle.c_parse.proofs.Windows.{IsWindow, too-long-window, too-long-same, longer-first}
 use Rattle.c_parse.proofs.Within.{is-there}
+
+-- in the text that goes on so with these tokens, the last one is the 501st of an outermost expression
+abbrev IsTooLongIn : Place → Tokens → ℕ → Tokens → Type 0
+IsTooLongIn end ts i more = (us es vs : Tokens) × IsOutermost end us es vs × (us ++ (es ++ vs) ≡ take (i + 1) ts ++ more) × (length us + 500 ≡ i) × (500 < length es)
 
 -- 501 tokens that end nothing, and more behind them
 module _ (own more : Tokens) (deep : ℕ) (inner : inside 0 own ≡ Some deep) (many : length own ≡ 501) where
@@ -49,7 +54,7 @@ module _ (own more : Tokens) (deep : ℕ) (inner : inside 0 own ≡ Some deep) (
     all = o.had ++ o.more
 
     closed : inside 0 all ≡ Some 0
-    closed = expression-closed false loosest_level o.value all o.text 0
+    closed = expression-closed User loosest_level o.value all o.text 0
 
     no-end-behind : (n e : ℕ) → inside 0 (o.more ++ o.ended.0 ∷ take n o.ended.1) ≡ Some e → ⊥
     no-end-behind n e is =
@@ -74,7 +79,7 @@ module _ (own more : Tokens) (deep : ℕ) (inner : inside 0 own ≡ Some deep) (
           absurd (no-end-behind (500 - length o.more) deep (sym (ap (inside 0) shown) ∙ inner))
     ]
 
-module _ (end : Place) (ts : Tokens) (i : ℕ) (u : CUnit) (more : Tokens) (text : SpellsUnit false end u (take (i + 1) ts ++ more)) (sound : (k : ℕ) → k < i → flaw_at false ts k ≡ None) (w : IsWindow ts i) where
+module _ (end : Place) (ts : Tokens) (i : ℕ) (u : CUnit) (more : Tokens) (text : SpellsUnit User end u (take (i + 1) ts ++ more)) (sound : (k : ℕ) → k < i → flaw_at User ts k ≡ None) (w : IsWindow ts i) where
   shape : take (i + 1) ts ++ more ≡ w.first ++ w.lead ∷ (w.own ++ more)
   shape = ap (λ (l : Tokens). l ++ more) w.split ∙ append_assoc w.first (w.lead ∷ w.own) more
 
@@ -113,21 +118,20 @@ module _ (end : Place) (ts : Tokens) (i : ℕ) (u : CUnit) (more : Tokens) (text
             let long = sym (too-long-same ts more i (length us + 501) (omega (arith, earlier)) there) ∙ ap (λ (l : Tokens). is_too_long l (length us + 501)) whole ∙ too-long tokens o.value o.text us o.rest t o.led.3 enough in
             absurd (flaw-of-long ts (length us + 501) long (sound (length us + 501) earlier))
 
-    outermost : IsTooLongAt end ts i
+    outermost : IsTooLongIn end ts i more
     outermost = (
       o.start,
       tokens,
       o.rest,
-      more,
-      (u, subst (SpellsUnit false end u) (sym joined) text, is-there o.start tokens o.rest o.there),
+      (u, subst (SpellsUnit User end u) (sym joined) text, is-there o.start tokens o.rest o.there),
       joined,
       omega (arith, counted, begins-there, w.at),
       enough,
     )
 
-  told : IsTooLongAt end ts i
+  told : IsTooLongIn end ts i more
   told =
-      let spelled = subst (SpellsUnit false end u) shape text in
+      let spelled = subst (SpellsUnit User end u) shape text in
       let all_of = unit-explained end u (w.first ++ w.lead ∷ (w.own ++ more)) spelled in
       let known = subst (IsExplained (w.first ++ w.lead ∷ [])) (append-nil (w.own ++ more)) (explained-at w.first w.lead (w.own ++ more) [] [] all_of w.leading) in
       elim known [
@@ -136,5 +140,11 @@ module _ (end : Place) (ts : Tokens) (i : ℕ) (u : CUnit) (more : Tokens) (text
         | inr (inr o) ↦ outermost o
       ]
 
-pub refused : (ts : Tokens) (i : ℕ) (end : Place) → GoesOn (SpellsUnit false end) (take (i + 1) ts) → flaw_at false ts i ≡ Some TooLong → ((k : ℕ) → k < i → flaw_at false ts k ≡ None) → IsTooLongAt end ts i
-refused ts i end goes long sound = told end ts i goes.0 goes.1 goes.2 sound (too-long-window ts i (flaw-too-long ts i long))
+-- what is told as too long, in this text
+pub too-long-in : (ts : Tokens) (i : ℕ) (end : Place) (u : CUnit) (more : Tokens) → SpellsUnit User end u (take (i + 1) ts ++ more) → ((k : ℕ) → k < i → flaw_at User ts k ≡ None) → is_too_long ts i ≡ true → IsTooLongIn end ts i more
+too-long-in ts i end u more text sound long = told end ts i u more text sound (too-long-window ts i long)
+
+pub refused : (ts : Tokens) (i : ℕ) (end : Place) → GoesOn (SpellsUnit User end) (take (i + 1) ts) → flaw_at User ts i ≡ Some TooLong → ((k : ℕ) → k < i → flaw_at User ts k ≡ None) → IsTooLongAt end ts i
+refused ts i end goes long sound =
+    let found = too-long-in ts i end goes.0 goes.1 goes.2 sound (flaw-too-long ts i long) in
+    (found.0, found.1, found.2, goes.1, found.3, found.4, found.5, found.6)

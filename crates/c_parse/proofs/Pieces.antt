@@ -6,6 +6,8 @@ use Rattle.hw_text.specs.declared.read_fault.ReadFault.TheVariants.{Syntax, NoMe
 use Rattle.hw_text.specs.Language.{One, Made}
 use Rattle.hw_text.specs.Reading.{begins, Anything, Reached, Stuck, Reads, Leaves}
 use Rattle.hw_text.proofs.Reading.{begun, refined, last, last-stuck, shorter}
+use Rattle.c_tree.specs.Dialects.{is_full}
+use Rattle.c_tree.specs.declared.dialect.Dialect.{Dialect}
 use Rattle.c_parse.specs.Values.{Tokens}
 use Rattle.c_parse.specs.ExpressionGrammar.{InFull}
 
@@ -44,10 +46,10 @@ shorter-by test A is {F} before after x so = shorter A F before after x (λ y w 
 pub read-as : {T X : Type 0} (A : X → List T → Type 0) (F : List T → Type 0) (before after : List T) (x y : X) → y ≡ x → Reached A F before after x → Reached A F before after y
 read-as {T} {X} A F before after x y is so = subst (λ (z : X). Reached A F before after z) (sym is) so
 
-module _ {X Z : Type 0} (A : Z → Tokens → Type 0) (F : Tokens → Type 0) (before after : Tokens) (full : Bool) (build : X → Z) (B : X → Tokens → Type 0) where
+module _ {X Z : Type 0} (A : Z → Tokens → Type 0) (F : Tokens → Type 0) (before after : Tokens) (dialect : Dialect) (build : X → Z) (B : X → Tokens → Type 0) where
   -- what the full grammar has alone is left
-  pub in-full : full ≡ true → Leaves A F before after build (InFull full B) → Leaves A F before after build B
-  in-full is so = refined A F before after build (InFull full B) (λ x. x) B so (λ x v text. (is, text)) (λ x v m text follows looked. (x, refl, text.1))
+  pub in-full : is_full dialect ≡ true → Leaves A F before after build (InFull dialect B) → Leaves A F before after build B
+  in-full is so = refined A F before after build (InFull dialect B) (λ x. x) B so (λ x v text. (is, text)) (λ x v m text follows looked. (x, refl, text.1))
 
-pub never-in-full : {X : Type 0} (full : Bool) (B : X → Tokens → Type 0) → full ≡ false → (x : X) (w : Tokens) → InFull full B x w → ⊥
-never-in-full full B not x w text = false≢true (sym not ∙ text.0)
+pub never-in-full : {X : Type 0} (dialect : Dialect) (B : X → Tokens → Type 0) → is_full dialect ≡ false → (x : X) (w : Tokens) → InFull dialect B x w → ⊥
+never-in-full dialect B not x w text = false≢true (sym not ∙ text.0)

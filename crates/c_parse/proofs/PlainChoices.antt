@@ -6,6 +6,8 @@ use Rattle.hw_text.specs.declared.placed.Placed.{Placed}
 use Rattle.hw_text.specs.Language.{◌⋅◌}
 use Rattle.hw_text.specs.Reading.{first, begins, Anything, Leaves}
 use Rattle.hw_text.proofs.Reading.{then-begins, first-begins}
+use Rattle.c_tree.specs.declared.dialect.Dialect.{Dialect}
+use Rattle.c_tree.specs.Dialects.{is_full}
 use Rattle.c_tree.specs.declared.expression.Selector.{Selector}
 use Rattle.c_tree.specs.declared.expression.Lvalue.{Lvalue}
 use Rattle.c_tree.specs.declared.named.Named.{Named}
@@ -34,38 +36,38 @@ begins-or : (f g : Placed Token → Bool) (l : Tokens) → begins (λ t. f t || 
 begins-or f g [] = refl
 begins-or f g (t ∷ l) = refl
 
-parts-second : (full : Bool) (ps : List Selector) (vs k : Tokens) → begins names_more k ≡ false → SpellsParts full ps vs → begins names_more (vs ++ k) ≡ false
-parts-second full ps vs k none (no_part f all ts is empty) = ap (λ (l : Tokens). begins names_more (l ++ k)) empty ∙ none
-parts-second full ps vs k none (a_member f p x qs ds ns us all ts is split dot name more) =
+parts-second : (dialect : Dialect) (ps : List Selector) (vs k : Tokens) → begins names_more k ≡ false → SpellsParts dialect ps vs → begins names_more (vs ++ k) ≡ false
+parts-second dialect ps vs k none (no_part f all ts is empty) = ap (λ (l : Tokens). begins names_more (l ++ k)) empty ∙ none
+parts-second dialect ps vs k none (a_member f p x qs ds ns us all ts is split dot name more) =
     ap (λ (l : Tokens). begins names_more (l ++ k)) split ∙ ap (begins names_more) (append_assoc ds (ns ++ us) k)
     ∙ sign_begins names_more false mark.Dot (λ p. refl) p ds ((ns ++ us) ++ k) dot
-parts-second full ps vs k none (an_index f p q x qs os us cs ws all ts is split opening inside closing more) =
+parts-second dialect ps vs k none (an_index f p q x qs os us cs ws all ts is split opening inside closing more) =
     ap (λ (l : Tokens). begins names_more (l ++ k)) split ∙ ap (begins names_more) (append_assoc os (us ++ (cs ++ ws)) k)
     ∙ sign_begins names_more false mark.OpenBracket (λ p. refl) p os ((us ++ (cs ++ ws)) ++ k) opening
 
-lvalue-second : (full : Bool) (l : Lvalue) (w k : Tokens) → SpellsLvalue full l w → begins is_name (w ++ k) ≡ true → begins names_more k ≡ false → begins names_more (drop 1 (w ++ k)) ≡ false
-lvalue-second full l w k (lvalue f b ps us vs x ws is split (inl at) rest) named none =
+lvalue-second : (dialect : Dialect) (l : Lvalue) (w k : Tokens) → SpellsLvalue dialect l w → begins is_name (w ++ k) ≡ true → begins names_more k ≡ false → begins names_more (drop 1 (w ++ k)) ≡ false
+lvalue-second dialect l w k (lvalue f b ps us vs x ws is split (inl at) rest) named none =
     let name = at.2 in
-    ap (begins names_more) (drop-one w us vs k name.0 split name.1) ∙ parts-second full ps vs k none rest
-lvalue-second full l w k (lvalue f b ps us vs x ws is split (inr (inl at)) rest) named none =
+    ap (begins names_more) (drop-one w us vs k name.0 split name.1) ∙ parts-second dialect ps vs k none rest
+lvalue-second dialect l w k (lvalue f b ps us vs x ws is split (inr (inl at)) rest) named none =
     let star = at.1.2 in
     absurd (false≢true (sym (ap (λ (l : Tokens). begins is_name (l ++ k)) split ∙ ap (begins is_name) (append_assoc us vs k)
     ∙ then-begins is_name false (Sign mark.OpenParenthesis) (Sign mark.Star ⋅ Name ⋅ Sign mark.CloseParenthesis) (sign_begins is_name false mark.OpenParenthesis (λ p. refl)) at.1.0 us (vs ++ k) star) ∙ named))
-lvalue-second full l w k (lvalue f b ps us vs x ws is split (inr (inr at)) rest) named none =
+lvalue-second dialect l w k (lvalue f b ps us vs x ws is split (inr (inr at)) rest) named none =
     let arrow = at.1.2 in
     ap (λ (l : Tokens). begins names_more (drop 1 (l ++ k))) split ∙ ap (λ (l : Tokens). begins names_more (drop 1 l)) (append_assoc us vs k)
     ∙ ap (begins names_more) (drop-one us arrow.0 arrow.1 (vs ++ k) arrow.3.0 arrow.2 arrow.3.1)
     ∙ then-begins names_more false (Sign mark.Arrow) Name (sign_begins names_more false mark.Arrow (λ p. refl)) at.1.0.1 arrow.1 (vs ++ k) arrow.4
 
-assignment-second : (full : Bool) (z : Statement) (w m : Tokens) → SpellsAssignment full z w → begins is_name (w ++ m) ≡ true → begins names_more (drop 1 (w ++ m)) ≡ false
-assignment-second full z w m text named =
+assignment-second : (dialect : Dialect) (z : Statement) (w m : Tokens) → SpellsAssignment dialect z w → begins is_name (w ++ m) ≡ true → begins names_more (drop 1 (w ++ m)) ≡ false
+assignment-second dialect z w m text named =
     let parts = text.2 in
     let whole = ap (λ (l : Tokens). l ++ m) parts.2 ∙ append_assoc parts.0 parts.1 m in
     ap (λ (l : Tokens). begins names_more (drop 1 l)) whole
-    ∙ lvalue-second full text.0.0 parts.0 (parts.1 ++ m) parts.3 (ap (begins is_name) (sym whole) ∙ named)
-    (then-begins names_more false (Sign mark.Assign) (SpellsRightSide full ⋅ Sign mark.Semicolon) (sign_begins names_more false mark.Assign (λ p. refl)) text.0.1 parts.1 m parts.4)
+    ∙ lvalue-second dialect text.0.0 parts.0 (parts.1 ++ m) parts.3 (ap (begins is_name) (sym whole) ∙ named)
+    (then-begins names_more false (Sign mark.Assign) (SpellsRightSide dialect ⋅ Sign mark.Semicolon) (sign_begins names_more false mark.Assign (λ p. refl)) text.0.1 parts.1 m parts.4)
 
-module _ (full : Bool) (x : Named) (at : Tokens) where
+module _ (dialect : Dialect) (x : Named) (at : Tokens) where
   abbrev t : Placed Token
   t = name_token x
 
@@ -98,91 +100,91 @@ module _ (full : Bool) (x : Named) (at : Tokens) where
   more-there-too is = begins-or is_name (is_mark mark.OpenParenthesis) at ∙ or-right (begins is_name at) (begins (is_mark mark.OpenParenthesis) at) is
 
   -- NAME NAME
-  pub local_ahead : begins is_name at ≡ true → TwoAhead (SpellsPlain full) (SpellsLocal full) t at
+  pub local_ahead : begins is_name at ≡ true → TwoAhead (SpellsPlain dialect) (SpellsLocal dialect) t at
   local_ahead there = record {
     within = λ z w text. inl text;
     only = λ z w m text same second. elim text [
       | inl a ↦ a
-      | inr (inl a) ↦ absurd (clash names_more false (drop 1 (w ++ m)) (assignment-second full z w m a (named w m same)) (more-there there) second)
-      | inr (inr (inl a)) ↦ absurd (clash is_name false (drop 1 (w ++ m)) (alone-second is_name false full (sign_begins is_name false mark.OpenParenthesis (λ p. refl)) z w m a) there second)
+      | inr (inl a) ↦ absurd (clash names_more false (drop 1 (w ++ m)) (assignment-second dialect z w m a (named w m same)) (more-there there) second)
+      | inr (inr (inl a)) ↦ absurd (clash is_name false (drop 1 (w ++ m)) (alone-second is_name false dialect (sign_begins is_name false mark.OpenParenthesis (λ p. refl)) z w m a) there second)
       | inr (inr (inr a)) ↦ absurd (break-never z w m a.1 same)
     ];
     begun =
-        let rest = both the_name (both (a_local_value full) (the_sign mark.Semicolon)) in
+        let rest = both the_name (both (a_local_value dialect) (the_sign mark.Semicolon)) in
         (local_of (class.Defined x, rest.0), rest.1, ((class.Defined x, rest.0), refl, (t ∷ [], rest.1, refl, inr (inr (x, refl, (t, refl, refl))), rest.2)));
   }
 
   -- NAME "("
-  pub alone_ahead : begins (is_mark mark.OpenParenthesis) at ≡ true → TwoAhead (SpellsPlain full) (SpellsCallAlone full) t at
+  pub alone_ahead : begins (is_mark mark.OpenParenthesis) at ≡ true → TwoAhead (SpellsPlain dialect) (SpellsCallAlone dialect) t at
   alone_ahead there = record {
     within = λ z w text. inr (inr (inl text));
     only = λ z w m text same second. elim text [
-      | inl a ↦ absurd (clash (is_mark mark.OpenParenthesis) false (drop 1 (w ++ m)) (local-second (is_mark mark.OpenParenthesis) false full (name_begins (is_mark mark.OpenParenthesis) false (λ n p. refl)) z w m a) there second)
-      | inr (inl a) ↦ absurd (clash names_more false (drop 1 (w ++ m)) (assignment-second full z w m a (named w m same)) (more-there-too there) second)
+      | inl a ↦ absurd (clash (is_mark mark.OpenParenthesis) false (drop 1 (w ++ m)) (local-second (is_mark mark.OpenParenthesis) false dialect (name_begins (is_mark mark.OpenParenthesis) false (λ n p. refl)) z w m a) there second)
+      | inr (inl a) ↦ absurd (clash names_more false (drop 1 (w ++ m)) (assignment-second dialect z w m a (named w m same)) (more-there-too there) second)
       | inr (inr (inl a)) ↦ a
       | inr (inr (inr a)) ↦ absurd (break-never z w m a.1 same)
     ];
     begun =
-        let rest = both (the_sign mark.OpenParenthesis) (both (no_arguments full) (the_sign mark.CloseParenthesis)) in
+        let rest = both (the_sign mark.OpenParenthesis) (both (no_arguments dialect) (the_sign mark.CloseParenthesis)) in
         let end = the_sign mark.Semicolon in
-        let call : SpellsCall full (call_of (x, rest.0)) (t ∷ rest.1) = ((x, rest.0), refl, (t ∷ [], rest.1, refl, (t, refl, refl), rest.2)) in
+        let call : SpellsCall dialect (call_of (x, rest.0)) (t ∷ rest.1) = ((x, rest.0), refl, (t ∷ [], rest.1, refl, (t, refl, refl), rest.2)) in
         (_, rest.1 ++ end.1, ((call_of (x, rest.0), end.0), refl, (t ∷ rest.1, end.1, refl, call, end.2)));
   }
 
   -- NAME, and what makes neither a local variable nor a call
-  pub assignment_ahead : begins is_name at ≡ false → begins (is_mark mark.OpenParenthesis) at ≡ false → TwoAhead (SpellsPlain full) (SpellsAssignment full) t at
+  pub assignment_ahead : begins is_name at ≡ false → begins (is_mark mark.OpenParenthesis) at ≡ false → TwoAhead (SpellsPlain dialect) (SpellsAssignment dialect) t at
   assignment_ahead no_name no_call = record {
     within = λ z w text. inr (inl text);
     only = λ z w m text same second. elim text [
-      | inl a ↦ absurd (clash is_name true (drop 1 (w ++ m)) (local-second is_name true full (name_begins is_name true (λ n p. refl)) z w m a) no_name second)
+      | inl a ↦ absurd (clash is_name true (drop 1 (w ++ m)) (local-second is_name true dialect (name_begins is_name true (λ n p. refl)) z w m a) no_name second)
       | inr (inl a) ↦ a
-      | inr (inr (inl a)) ↦ absurd (clash (is_mark mark.OpenParenthesis) true (drop 1 (w ++ m)) (alone-second (is_mark mark.OpenParenthesis) true full (sign_begins (is_mark mark.OpenParenthesis) true mark.OpenParenthesis (λ p. refl)) z w m a) no_call second)
+      | inr (inr (inl a)) ↦ absurd (clash (is_mark mark.OpenParenthesis) true (drop 1 (w ++ m)) (alone-second (is_mark mark.OpenParenthesis) true dialect (sign_begins (is_mark mark.OpenParenthesis) true mark.OpenParenthesis (λ p. refl)) z w m a) no_call second)
       | inr (inr (inr a)) ↦ absurd (break-never z w m a.1 same)
     ];
     begun =
-        let rest = both (the_sign mark.Assign) (both (a_right full) (the_sign mark.Semicolon)) in
-        (_, rest.1, ((_, rest.0), refl, (t ∷ [], rest.1, refl, name_lvalue full x (t ∷ []) (t, refl, refl), rest.2)));
+        let rest = both (the_sign mark.Assign) (both (a_right dialect) (the_sign mark.Semicolon)) in
+        (_, rest.1, ((_, rest.0), refl, (t ∷ [], rest.1, refl, name_lvalue dialect x (t ∷ []) (t, refl, refl), rest.2)));
   }
 
-module _ (full : Bool) (before : Tokens) where
-  plain_left : Leaves (SpellsPlain full) Anything before before (λ z. z) (SpellsPlain full)
-  plain_left = all_left (SpellsPlain full) Anything before
+module _ (dialect : Dialect) (before : Tokens) where
+  plain_left : Leaves (SpellsPlain dialect) Anything before before (λ z. z) (SpellsPlain dialect)
+  plain_left = all_left (SpellsPlain dialect) Anything before
 
   -- a type that is no name
-  pub typed_there : begins is_plain_type before ≡ true → Leaves (SpellsPlain full) Anything before before (λ z. z) (SpellsLocal full)
+  pub typed_there : begins is_plain_type before ≡ true → Leaves (SpellsPlain dialect) Anything before before (λ z. z) (SpellsLocal dialect)
   typed_there there = at_first plain_left
-      (either_way (by_test (assignment-begins is_plain_type false full (name_begins is_plain_type false (λ n p. refl)) (sign_begins is_plain_type false mark.OpenParenthesis (λ p. refl))) there)
-      (either_way (by_test (alone-begins is_plain_type false full (name_begins is_plain_type false (λ n p. refl))) there)
-      (by_test (full-begins is_plain_type false full (word_begins is_plain_type false keyword.Break (λ p. refl))) there)))
+      (either_way (by_test (assignment-begins is_plain_type false dialect (name_begins is_plain_type false (λ n p. refl)) (sign_begins is_plain_type false mark.OpenParenthesis (λ p. refl))) there)
+      (either_way (by_test (alone-begins is_plain_type false dialect (name_begins is_plain_type false (λ n p. refl))) there)
+      (by_test (full-begins is_plain_type false dialect (word_begins is_plain_type false keyword.Break (λ p. refl))) there)))
 
-  pub break_there : (full && begins (is_word keyword.Break) before) ≡ true → Leaves (SpellsPlain full) Anything before before (λ z. z) SpellsBreak
+  pub break_there : (is_full dialect && begins (is_word keyword.Break) before) ≡ true → Leaves (SpellsPlain dialect) Anything before before (λ z. z) SpellsBreak
   break_there there =
-      let word = and_right full (begins (is_word keyword.Break) before) there in
-      in_full
+      let word = and_right (is_full dialect) (begins (is_word keyword.Break) before) there in
+      in_full dialect
       (at_second
       (at_second
       (at_second plain_left
-      (by_test (local-begins (is_word keyword.Break) false full
+      (by_test (local-begins (is_word keyword.Break) false dialect
       (type_begins (is_word keyword.Break) false
       (integer_begins (is_word keyword.Break) false (λ p. refl) (λ p. refl) (λ p. refl) (λ p. refl) (λ p. refl) (λ p. refl) (λ p. refl) (λ p. refl))
       (word_begins (is_word keyword.Break) false keyword.Bool (λ p. refl)) (name_begins (is_word keyword.Break) false (λ n p. refl)))) word))
-      (by_test (assignment-begins (is_word keyword.Break) false full (name_begins (is_word keyword.Break) false (λ n p. refl)) (sign_begins (is_word keyword.Break) false mark.OpenParenthesis (λ p. refl))) word))
-      (by_test (alone-begins (is_word keyword.Break) false full (name_begins (is_word keyword.Break) false (λ n p. refl))) word))
-      (and_left full (begins (is_word keyword.Break) before) there)
+      (by_test (assignment-begins (is_word keyword.Break) false dialect (name_begins (is_word keyword.Break) false (λ n p. refl)) (sign_begins (is_word keyword.Break) false mark.OpenParenthesis (λ p. refl))) word))
+      (by_test (alone-begins (is_word keyword.Break) false dialect (name_begins (is_word keyword.Break) false (λ n p. refl))) word))
+      (and_left (is_full dialect) (begins (is_word keyword.Break) before) there)
 
   -- a token with which a type begins
   abbrev is_type : Placed Token → Bool
   is_type t = is_name t || is_plain_type t
 
-  pub assignment_there : begins is_name before ≡ false → begins is_plain_type before ≡ false → (full && begins (is_word keyword.Break) before) ≡ false → Leaves (SpellsPlain full) Anything before before (λ z. z) (SpellsAssignment full)
+  pub assignment_there : begins is_name before ≡ false → begins is_plain_type before ≡ false → (is_full dialect && begins (is_word keyword.Break) before) ≡ false → Leaves (SpellsPlain dialect) Anything before before (λ z. z) (SpellsAssignment dialect)
   assignment_there no_name no_type no_break = at_first
       (at_second plain_left
-      (by_test (local-begins is_type true full
+      (by_test (local-begins is_type true dialect
       (type_begins is_type true
       (integer_begins is_type true (λ p. refl) (λ p. refl) (λ p. refl) (λ p. refl) (λ p. refl) (λ p. refl) (λ p. refl) (λ p. refl))
       (word_begins is_type true keyword.Bool (λ p. refl)) (name_begins is_type true (λ n p. refl)))) (begins-or is_name is_plain_type before ∙ neither (begins is_name before) (begins is_plain_type before) no_name no_type)))
-      (either_way (by_test (alone-begins is_name true full (name_begins is_name true (λ n p. refl))) no_name)
-      (by_full full (break-begins (is_word keyword.Break) true (this_word keyword.Break)) no_break))
+      (either_way (by_test (alone-begins is_name true dialect (name_begins is_name true (λ n p. refl))) no_name)
+      (by_full dialect (break-begins (is_word keyword.Break) true (this_word keyword.Break)) no_break))
     where
       neither : (b c : Bool) → b ≡ false → c ≡ false → (b || c) ≡ false
       neither true c one other = one

@@ -3,6 +3,7 @@ use Rattle.std.proofs.Common.{◌≡◌, ◌∙◌, refl, ap, Bool, true, false,
 use Rattle.std.specs.Prelude.{is_some}
 use Rattle.std.proofs.lemmas.Bool.{false≢true}
 use Rattle.std.proofs.lemmas.Option.{same_Some}
+use Rattle.c_tree.specs.declared.dialect.Dialect.{Dialect}
 use Rattle.c_parse.proofs.TokenKinds.{none-some}
 use Rattle.hw_text.specs.declared.place.Place.{Place}
 use Rattle.hw_text.specs.declared.placed.Placed.{Placed}
@@ -27,28 +28,28 @@ use Rattle.c_parse.proofs.TypeTexts.{defined-read}
 use Rattle.c_parse.proofs.RightTexts.{lvalue_begins}
 use Rattle.c_parse.proofs.Leaves.{put, sign_begins}
 
-pub lvalue-assign : {full : Bool} (y : Place × (RightSide × Place)) (w m : Tokens) → (Sign mark.Assign ⋅ SpellsRightSide full ⋅ Sign mark.Semicolon) y w → Anything m → BeginsWithout is_selector (w ++ m)
-lvalue-assign {full = full} y w m text follows = then-begins is_selector false (Sign mark.Assign) (SpellsRightSide full ⋅ Sign mark.Semicolon) (sign_begins is_selector false mark.Assign (λ p. refl)) y w m text
+pub lvalue-assign : {dialect : Dialect} (y : Place × (RightSide × Place)) (w m : Tokens) → (Sign mark.Assign ⋅ SpellsRightSide dialect ⋅ Sign mark.Semicolon) y w → Anything m → BeginsWithout is_selector (w ++ m)
+lvalue-assign {dialect = dialect} y w m text follows = then-begins is_selector false (Sign mark.Assign) (SpellsRightSide dialect ⋅ Sign mark.Semicolon) (sign_begins is_selector false mark.Assign (λ p. refl)) y w m text
 
 module _ (test : Placed Token → Bool) (so : Bool) where
-  pub local-begins : (full : Bool) → Begins test so SpellsType → Begins test so (SpellsLocal full)
-  local-begins full is = made-begins test so _ _ (then-begins test so SpellsType (Name ⋅ SpellsLocalValue full ⋅ Sign mark.Semicolon) is)
+  pub local-begins : (dialect : Dialect) → Begins test so SpellsType → Begins test so (SpellsLocal dialect)
+  local-begins dialect is = made-begins test so _ _ (then-begins test so SpellsType (Name ⋅ SpellsLocalValue dialect ⋅ Sign mark.Semicolon) is)
 
-  pub assignment-begins : (full : Bool) → Begins test so Name → Begins test so (Sign mark.OpenParenthesis) → Begins test so (SpellsAssignment full)
-  assignment-begins full name opening = made-begins test so _ _
-      (then-begins test so (SpellsLvalue full) (Sign mark.Assign ⋅ SpellsRightSide full ⋅ Sign mark.Semicolon) (lvalue_begins test so full name opening))
+  pub assignment-begins : (dialect : Dialect) → Begins test so Name → Begins test so (Sign mark.OpenParenthesis) → Begins test so (SpellsAssignment dialect)
+  assignment-begins dialect name opening = made-begins test so _ _
+      (then-begins test so (SpellsLvalue dialect) (Sign mark.Assign ⋅ SpellsRightSide dialect ⋅ Sign mark.Semicolon) (lvalue_begins test so dialect name opening))
 
-  pub call-begins : (full : Bool) → Begins test so Name → Begins test so (SpellsCall full)
-  call-begins full name = made-begins test so _ _ (then-begins test so Name _ name)
+  pub call-begins : (dialect : Dialect) → Begins test so Name → Begins test so (SpellsCall dialect)
+  call-begins dialect name = made-begins test so _ _ (then-begins test so Name _ name)
 
-  pub alone-begins : (full : Bool) → Begins test so Name → Begins test so (SpellsCallAlone full)
-  alone-begins full name = made-begins test so _ _ (then-begins test so (SpellsCall full) (Sign mark.Semicolon) (call-begins full name))
+  pub alone-begins : (dialect : Dialect) → Begins test so Name → Begins test so (SpellsCallAlone dialect)
+  alone-begins dialect name = made-begins test so _ _ (then-begins test so (SpellsCall dialect) (Sign mark.Semicolon) (call-begins dialect name))
 
   pub break-begins : Begins test so (Word keyword.Break) → Begins test so SpellsBreak
   break-begins is = made-begins test so _ _ (then-begins test so (Word keyword.Break) (Sign mark.Semicolon) is)
 
-  pub full-begins : (full : Bool) → Begins test so (Word keyword.Break) → Begins test so (InFull full SpellsBreak)
-  full-begins full is y w m text = break-begins is y w m text.1
+  pub full-begins : (dialect : Dialect) → Begins test so (Word keyword.Break) → Begins test so (InFull dialect SpellsBreak)
+  full-begins dialect is y w m text = break-begins is y w m text.1
 
 -- a name that was read stands there
 pub name_before : {before at : Tokens} {x : Named} → Reached Name Anything before at x → before ≡ name_token x ∷ at
@@ -87,17 +88,17 @@ one-token c w (inr (inl text)) = (text.2.0, text.2.1)
 one-token c w (inr (inr text)) = (text.2.0, text.2.1)
 
 -- what stands behind the first token of a statement that begins with a name
-module _ (test : Placed Token → Bool) (so : Bool) (full : Bool) where
-  pub local-second : Begins test so Name → (z : Statement) (w m : Tokens) → SpellsLocal full z w → begins test (drop 1 (w ++ m)) ≡ so
+module _ (test : Placed Token → Bool) (so : Bool) (dialect : Dialect) where
+  pub local-second : Begins test so Name → (z : Statement) (w m : Tokens) → SpellsLocal dialect z w → begins test (drop 1 (w ++ m)) ≡ so
   local-second is z w m text =
       let parts = text.2 in
       let one = one-token text.0.0 parts.0 parts.3 in
-      ap (begins test) (drop-one w parts.0 parts.1 m one.0 parts.2 one.1) ∙ then-begins test so Name (SpellsLocalValue full ⋅ Sign mark.Semicolon) is text.0.1 parts.1 m parts.4
+      ap (begins test) (drop-one w parts.0 parts.1 m one.0 parts.2 one.1) ∙ then-begins test so Name (SpellsLocalValue dialect ⋅ Sign mark.Semicolon) is text.0.1 parts.1 m parts.4
 
-  pub alone-second : Begins test so (Sign mark.OpenParenthesis) → (z : Statement) (w m : Tokens) → SpellsCallAlone full z w → begins test (drop 1 (w ++ m)) ≡ so
+  pub alone-second : Begins test so (Sign mark.OpenParenthesis) → (z : Statement) (w m : Tokens) → SpellsCallAlone dialect z w → begins test (drop 1 (w ++ m)) ≡ so
   alone-second is z w m text =
       let parts = text.2 in
       let call = parts.3.2 in
       ap (λ (l : Tokens). begins test (drop 1 (l ++ m))) parts.2 ∙ ap (λ (l : Tokens). begins test (drop 1 l)) (append_assoc parts.0 parts.1 m)
       ∙ ap (begins test) (drop-one parts.0 call.0 call.1 (parts.1 ++ m) call.3.0 call.2 call.3.1)
-      ∙ then-begins test so (Sign mark.OpenParenthesis) (Separated (SpellsArgument full) ⋅ Sign mark.CloseParenthesis) is parts.3.0.1 call.1 (parts.1 ++ m) call.4
+      ∙ then-begins test so (Sign mark.OpenParenthesis) (Separated (SpellsArgument dialect) ⋅ Sign mark.CloseParenthesis) is parts.3.0.1 call.1 (parts.1 ++ m) call.4

@@ -8,10 +8,11 @@ use Rattle.std.proofs.lemmas.Option.{same_Some, option_and_then_some}
 use Rattle.std.proofs.lemmas.Bool.{cases_lt, le-ltb, lt-ltb}
 use Rattle.std.proofs.Math.Seq.{take-append_seam}
 use Rattle.hw_text.specs.declared.place.Place.{Place}
+use Rattle.c_tree.specs.Literals.{signed_value}
 use Rattle.c_tree.specs.declared.named.SignedLiteral.{SignedLiteral}
 use Rattle.c_parse.specs.declared.bounds.Bound.{Bound}
 use Rattle.c_parse.specs.Values.{Tokens}
-use Rattle.c_parse.specs.Ranges.{Bounds, signed_value, IsEmptyRange}
+use Rattle.c_parse.specs.Ranges.{Bounds, IsEmptyRange}
 use Rattle.c_parse.specs.RangeEnds.{bound_of, last_bound, before_between, before_start, last_signed, start_of_empty, last_empty, empty_range_at}
 use Rattle.c_parse.proofs.TokenKinds.{none-some}
 use Rattle.c_parse.proofs.RangeReads.{last_bounds, bounds-found}

@@ -1,16 +1,18 @@
 -- Tokens that spell a value, wherever they stand.
-use Rattle.std.proofs.Common.{◌≡◌, Bool, true, false, List, [], ◌∷◌, ◌++◌, map, length, get_or, drop, Option, Some, None, inl, inr, refl, ap, ◌∙◌, subst, arith}
-use Rattle.std.proofs.lemmas.Bool.{false≢true}
-use Rattle.std.specs.Prelude.{IsTrue, ◌&&◌, ◌||◌}
+use Rattle.std.proofs.Common.{◌≡◌, Bool, List, [], ◌∷◌, ◌++◌, map, length, get_or, drop, Option, Some, None, inl, inr, refl, ap, ◌∙◌, subst, arith, IsTrue}
+use Rattle.std.proofs.lemmas.Bool.{and_parts}
+use Rattle.std.specs.Prelude.{IsTrue}
 use Rattle.std.specs.List.{flat_map, list_all}
 use Rattle.std.specs.Option.{option_map}
 use Rattle.hw_text.specs.declared.place.Place.{Place}
 use Rattle.hw_text.specs.declared.placed.Placed.{Placed}
 use Rattle.hw_text.specs.Language.{One, ◌⋅◌, Maybe, Each, Made, ◌∣◌}
+use Rattle.c_tree.specs.declared.dialect.Dialect.{Dialect}
+use Rattle.c_tree.specs.Dialects.{is_full}
 use Rattle.c_parse.specs.ExpressionGrammar.{InFull}
 use Rattle.c_parse.specs.Values.{Tokens}
 use Rattle.c_parse.specs.declared.token.Token.{Token}
-use Rattle.c_parse.proofs.ExpressionInduction.{OfEach}
+use Rattle.c_tree.proofs.ExpressionInduction.{OfEach}
 
 abbrev pub tokens_of : Tokens → List Token
 tokens_of ts = map (λ t. t.token) ts
@@ -86,8 +88,8 @@ module _ {Z : Type 0} {A B : Z → Tokens → Type 0} {g : Z → Z} {w : Z} {us 
         (p.0, inr p.1, p.2);
   }
 
-pub in-full : {Z : Type 0} {A : Z → Tokens → Type 0} {g : Z → Z} {w : Z} {us : List Token} → (full : Bool) → IsTrue full → Respells A g w us → Respells (InFull full A) g w us
-in-full full is a = record {
+pub in-full : {Z : Type 0} {A : Z → Tokens → Type 0} {g : Z → Z} {w : Z} {us : List Token} → (dialect : Dialect) → IsTrue (is_full dialect) → Respells A g w us → Respells (InFull dialect A) g w us
+in-full dialect is a = record {
   found = λ ts e.
       let p = a.found ts e in
       (p.0, (is, p.1), p.2);
@@ -134,21 +136,9 @@ module _ {X : Type 0} {A : X → Tokens → Type 0} {f : X → X} where
     pub each : ((x : X) → Respells A f (f x) (tokens x)) → (xs : List X) → Respells (Each A) (map f) (map f xs) (flat_map tokens xs)
     each all xs = each-of xs (of-each all xs)
 
--- what the grammar allows: all in full, and else what is a user's
-abbrev pub Allows : Bool → Bool → Type 0
-Allows full user = IsTrue (full || user)
-
-pub allows-both : (full a b : Bool) → Allows full (a && b) → Allows full a × Allows full b
-allows-both true a b h = (h, h)
-allows-both false true b h = (refl, h)
-allows-both false false b h = absurd (false≢true h)
-
-pub allows-full : (full : Bool) → Allows full false → IsTrue full
-allows-full true h = h
-allows-full false h = absurd (false≢true h)
-
-pub allows-each : {X : Type 0} (full : Bool) (test : X → Bool) (xs : List X) → Allows full (list_all test xs) → OfEach (λ x. Allows full (test x)) xs
-allows-each full test [] h = tt
-allows-each full test (x ∷ xs) h =
-    let both = allows-both full (test x) (list_all test xs) h in
-    (both.0, allows-each full test xs both.1)
+-- where a test holds of all members, it holds of each
+pub all-parts : {X : Type 0} (test : X → Bool) (xs : List X) → IsTrue (list_all test xs) → OfEach (λ x. IsTrue (test x)) xs
+all-parts test [] h = tt
+all-parts test (x ∷ xs) h =
+    let both = and_parts (test x) (list_all test xs) h in
+    (both.0, all-parts test xs both.1)

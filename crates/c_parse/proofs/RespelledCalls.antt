@@ -1,8 +1,10 @@
 -- The canonical tokens of lists, calls, types and the values of variables spell them.
-use Rattle.std.proofs.Common.{Bool, true, false, if◌then◌else◌, List, [], ◌∷◌, ◌++◌, map, codes, Option, Some, None, refl, ap}
+use Rattle.std.proofs.Common.{Bool, true, false, if◌then◌else◌, List, [], ◌∷◌, ◌++◌, map, Option, Some, None, refl, ap, IsTrue}
 use Rattle.std.specs.List.{flat_map}
 use Rattle.std.specs.Option.{option_map}
 use Rattle.hw_text.specs.Language.{Each}
+use Rattle.c_tree.specs.declared.dialect.Dialect.{Dialect}
+use Rattle.c_tree.specs.Spellings as numeral
 use Rattle.c_tree.specs.Unplaced.{origin, unplaced_literal, unplaced_signed, unplaced_class, unplaced_argument, unplaced_call, unplaced_right, unplaced_local}
 use Rattle.c_tree.specs.declared.named.Literal.{Literal}
 use Rattle.c_tree.specs.declared.named.SignedLiteral.{SignedLiteral}
@@ -20,14 +22,14 @@ use Rattle.c_parse.specs.PlainGrammar.{SpellsZeros, SpellsGiven, zero_array, Spe
 use Rattle.c_parse.specs.PrintedExpressions.{behind_comma_tokens, separated, argument_tokens, call_tokens, right_tokens}
 use Rattle.c_parse.specs.PrintedStatements.{type_token, signed_tokens, length_tokens, local_tokens}
 use Rattle.c_parse.specs.TypedefGrammar.{length_of, SpellsLength}
-use Rattle.c_parse.specs.UserUnits.{is_user_argument, is_user_call, is_user_right, is_user_local}
+use Rattle.c_tree.specs.Dialects.{has_argument, has_call, has_right, has_local}
 use Rattle.c_parse.specs.Values.{Tokens}
 use Rattle.c_parse.specs.declared.keyword.Keyword.TheVariants as keyword
 use Rattle.c_parse.specs.declared.mark.Mark.TheVariants as mark
 use Rattle.c_parse.specs.declared.token.Token.{Token}
 use Rattle.c_parse.specs.declared.token.Token.TheVariants as token
-use Rattle.c_parse.proofs.ExpressionInduction.{OfEach}
-use Rattle.c_parse.proofs.Respelled.{Respells, no-tokens, after, turned, built, one-way, other-way, not-there, there, each-of, Allows, allows-each}
+use Rattle.c_tree.proofs.ExpressionInduction.{OfEach}
+use Rattle.c_parse.proofs.Respelled.{Respells, no-tokens, after, turned, built, one-way, other-way, not-there, there, each-of, all-parts}
 use Rattle.c_parse.proofs.RespelledExpressions.{whole}
 use Rattle.c_parse.proofs.RespelledWords.{sign, word, named, literal, zero, integer}
 
@@ -65,32 +67,32 @@ a_length None = not-there
 a_length (Some l) = there (built length_of (after (sign mark.OpenBracket) (after (literal l) (sign mark.CloseBracket))) (λ y. refl) refl)
 
 abbrev pub zeros_tokens : List Token
-zeros_tokens = token.Mark mark.OpenBrace ∷ token.Literal (codes "0") ∷ token.Mark mark.CloseBrace ∷ []
+zeros_tokens = token.Mark mark.OpenBrace ∷ token.Literal numeral.zero ∷ token.Mark mark.CloseBrace ∷ []
 
 pub zeros : Respells SpellsZeros (λ u. u) tt zeros_tokens
 zeros = built (λ p. tt) (after (sign mark.OpenBrace) (after zero (sign mark.CloseBrace))) (λ y. refl) refl
 
-module _ (full : Bool) where
-  handed : (a : Argument) → Allows full (is_user_argument a) → Respells (SpellsArgument full) unplaced_argument (unplaced_argument a) (argument_tokens a)
+module _ (dialect : Dialect) where
+  handed : (a : Argument) → IsTrue (has_argument dialect a) → Respells (SpellsArgument dialect) unplaced_argument (unplaced_argument a) (argument_tokens a)
   handed (argument.Address at x) allowed = one-way (built address (after (sign mark.Ampersand) (named x)) (λ y. refl) refl)
-  handed (argument.Value x) allowed = other-way (built argument.Value (whole full x allowed) (λ y. refl) refl)
+  handed (argument.Value x) allowed = other-way (built argument.Value (whole dialect x allowed) (λ y. refl) refl)
 
-  pub call : (c : Call) → Allows full (is_user_call c) → Respells (SpellsCall full) unplaced_call (unplaced_call c) (call_tokens c)
+  pub call : (c : Call) → IsTrue (has_call dialect c) → Respells (SpellsCall dialect) unplaced_call (unplaced_call c) (call_tokens c)
   call c allowed =
-      let all = of-each-as handed c.arguments (allows-each full is_user_argument c.arguments allowed) in
-      built call_of (after (named c.name) (after (sign mark.OpenParenthesis) (after (separated-read (SpellsArgument full) argument_tokens c.arguments all) (sign mark.CloseParenthesis)))) (λ y. refl) refl
+      let all = of-each-as handed c.arguments (all-parts (has_argument dialect) c.arguments allowed) in
+      built call_of (after (named c.name) (after (sign mark.OpenParenthesis) (after (separated-read (SpellsArgument dialect) argument_tokens c.arguments all) (sign mark.CloseParenthesis)))) (λ y. refl) refl
 
-  pub right_side : (r : RightSide) → Allows full (is_user_right r) → Respells (SpellsRightSide full) unplaced_right (unplaced_right r) (right_tokens r)
+  pub right_side : (r : RightSide) → IsTrue (has_right dialect r) → Respells (SpellsRightSide dialect) unplaced_right (unplaced_right r) (right_tokens r)
   right_side (right.Call c) allowed = one-way (built right.Call (call c allowed) (λ y. refl) refl)
-  right_side (right.Value x) allowed = other-way (built right.Value (whole full x allowed) (λ y. refl) refl)
+  right_side (right.Value x) allowed = other-way (built right.Value (whole dialect x allowed) (λ y. refl) refl)
 
-  pub local_value : (v : LocalValue) → Allows full (is_user_local v) → Respells (SpellsLocalValue full) unplaced_local (unplaced_local v) (local_tokens v)
+  pub local_value : (v : LocalValue) → IsTrue (has_local dialect v) → Respells (SpellsLocalValue dialect) unplaced_local (unplaced_local v) (local_tokens v)
   local_value (local.ZeroArray l) allowed =
       one-way (built zero_array (after (sign mark.OpenBracket) (after (literal l) (after (sign mark.CloseBracket) (after (sign mark.Assign) zeros)))) (λ y. refl) refl)
   local_value local.Zero allowed =
-      let given : Respells (SpellsGiven full) unplaced_local local.Zero zeros_tokens = one-way (built (λ u. local.Zero) zeros (λ y. refl) refl) in
+      let given : Respells (SpellsGiven dialect) unplaced_local local.Zero zeros_tokens = one-way (built (λ u. local.Zero) zeros (λ y. refl) refl) in
       other-way (built (λ p. p.1) (after (sign mark.Assign) given) (λ y. refl) refl)
   local_value (local.Given value) allowed =
-      let given : Respells (SpellsGiven full) unplaced_local (local.Given (unplaced_right value)) (right_tokens value) =
+      let given : Respells (SpellsGiven dialect) unplaced_local (local.Given (unplaced_right value)) (right_tokens value) =
       other-way (built local.Given (right_side value allowed) (λ y. refl) refl) in
       other-way (built (λ p. p.1) (after (sign mark.Assign) given) (λ y. refl) refl)

@@ -4,6 +4,7 @@ use Rattle.std.specs.List.{flat_map}
 use Rattle.std.specs.Option.{option_map}
 use Rattle.hw_text.specs.declared.place.Place.{Place}
 use Rattle.hw_text.specs.Language.{Nothing, ◌⋅◌, Maybe, Made}
+use Rattle.c_tree.specs.declared.dialect.Dialect.{Dialect}
 use Rattle.c_tree.specs.Unplaced.{unplaced_named}
 use Rattle.c_tree.specs.UnplacedUnits.{unplaced_enumeration, unplaced_member, unplaced_structure, unplaced_initial, unplaced_external, unplaced_pointer, unplaced_item}
 use Rattle.c_tree.specs.declared.named.Named.{Named}
@@ -32,7 +33,7 @@ use Rattle.c_parse.specs.declared.keyword.Keyword.TheVariants as keyword
 use Rattle.c_parse.specs.declared.mark.Mark.TheVariants as mark
 use Rattle.c_parse.specs.declared.token.Token.{Token}
 use Rattle.c_parse.specs.declared.token.Token.TheVariants as token
-use Rattle.c_parse.proofs.ExpressionInduction.{OfEach}
+use Rattle.c_tree.proofs.ExpressionInduction.{OfEach}
 use Rattle.c_parse.proofs.Respelled.{Respells, respelled-as, no-tokens, after, turned, built, one-way, other-way, not-there, there, each}
 use Rattle.c_parse.proofs.RespelledCalls.{later-read, type_name, signed, a_length, zeros_tokens, zeros}
 use Rattle.c_parse.proofs.RespelledWords.{sign, word, named, truth}
@@ -117,8 +118,8 @@ a_variable_of k = variable_of k.0.0 k.0.1.0 k.0.1.1 k.1
 variable-split : (s l i : List Token) (t n c : Token) → (s ++ t ∷ n ∷ []) ++ (l ++ (i ++ c ∷ [])) ≡ s ++ (t ∷ n ∷ l) ++ i ++ c ∷ []
 variable-split s l i t n c = simp append_assoc
 
-pub variable : (full : Bool) (v : Variable) → Respells (SpellsDeclared full) unplaced_item (unplaced_item (item.Variable v)) (variable_tokens v)
-variable full v =
+pub variable : (dialect : Dialect) (v : Variable) → Respells (SpellsDeclared dialect) unplaced_item (unplaced_item (item.Variable v)) (variable_tokens v)
+variable dialect v =
     respelled-as (variable-split (static_tokens v.is_static) (length_tokens v.length) (initial_tokens v.initial) (type_token v.class) (token.Name v.name.name) (token.Mark mark.Semicolon)) refl
     (turned a_variable_of
     (λ k ts text. (heading_of (k.0.0, (Some k.0.1.0, k.0.1.1)), text.0, text.1, text.2, typed-heading k.0.0 k.0.1.0 k.0.1.1 text.0 text.3, inl (k.1, refl, text.4)))

@@ -1,11 +1,13 @@
 -- The tokens of marks, words, names and literals spell them.
-use Rattle.std.proofs.Common.{◌≡◌, ℕ, Bool, true, false, List, [], ◌∷◌, codes, Some, refl, ap}
+use Rattle.std.proofs.Common.{◌≡◌, Bool, true, false, [], ◌∷◌, Some, refl, ap}
 use Rattle.std.proofs.lemmas.Slice.Eq.{bytes_eq-Decides}
 use Rattle.hw_text.specs.declared.place.Place.{Place}
 use Rattle.hw_text.specs.Language.{One}
 use Rattle.c_tree.specs.Unplaced.{origin, unplaced_named, unplaced_literal}
 use Rattle.c_tree.specs.declared.integer_type.IntegerType.{IntegerType}
 use Rattle.c_tree.specs.declared.integer_type.IntegerType.TheVariants as integer_type
+use Rattle.c_tree.specs.declared.identifier.Identifier.{Identifier}
+use Rattle.c_tree.specs.Spellings as numeral
 use Rattle.c_tree.specs.declared.named.Named.{Named}
 use Rattle.c_tree.specs.declared.named.Literal.{Literal}
 use Rattle.c_parse.specs.CallGrammar.{Word}
@@ -41,11 +43,11 @@ named x = one name_of (token.Name x.name) (λ at. record { name = x.name; place 
 pub literal : (l : Literal) → Respells (One literal_of) unplaced_literal (unplaced_literal l) (token.Literal l.numeral ∷ [])
 literal l = one literal_of (token.Literal l.numeral) (λ at. record { numeral = l.numeral; place = at }) (λ at. refl) (λ at. refl)
 
-pub zero : Respells (One zero_of) (λ at. origin) origin (token.Literal (codes "0") ∷ [])
-zero = one zero_of (token.Literal (codes "0")) (λ at. at) (λ at. refl) (λ at. refl)
+pub zero : Respells (One zero_of) (λ at. origin) origin (token.Literal numeral.zero ∷ [])
+zero = one zero_of (token.Literal numeral.zero) (λ at. at) (λ at. refl) (λ at. refl)
 
-pub again : (n : List ℕ) → Respells (One (again_of n)) (λ at. origin) origin (token.Name n ∷ [])
-again n = one (again_of n) (token.Name n) (λ at. at) (λ at. ap (λ (b : Bool). found b at) ((bytes_eq-Decides n n).1 refl)) (λ at. refl)
+pub again : (n : Identifier) → Respells (One (again_of n)) (λ at. origin) origin (token.Name n ∷ [])
+again n = one (again_of n) (token.Name n) (λ at. at) (λ at. ap (λ (b : Bool). found b at) ((bytes_eq-Decides n.bytes n.bytes).1 refl)) (λ at. refl)
 
 -- a type, but for its place
 abbrev pub kind_bare : Place × IntegerType → Place × IntegerType

@@ -5,6 +5,7 @@ use Rattle.std.proofs.lemmas.Bool.{false≢true}
 use Rattle.hw_text.specs.Language.{Made}
 use Rattle.hw_text.specs.Reading.{begins, Anything, Reached, Stuck}
 use Rattle.hw_text.proofs.Reading.{last, last-stuck}
+use Rattle.c_tree.specs.declared.dialect.Dialect.{Dialect}
 use Rattle.c_tree.specs.declared.named.Named.{Named}
 use Rattle.c_tree.specs.declared.expression.Call.{Call}
 use Rattle.c_tree.specs.declared.expression.Expression.{Expression}
@@ -47,22 +48,22 @@ no-call-there None ts before same none which = first-not before none
 no-call-there (Some x) ts before same none (inl no_name) = absurd (false≢true (sym no_name))
 no-call-there (Some x) ts before same none (inr no_opening) = ap begins_call same ∙ no_opening
 
-module _ (full : Bool) where
+module _ (dialect : Dialect) where
   abbrev Right : RightSide → Tokens → Type 0
-  Right = SpellsRightSide full
+  Right = SpellsRightSide dialect
 
   abbrev CallForm : RightSide → Tokens → Type 0
-  CallForm = Made right.Call (SpellsCall full)
+  CallForm = Made right.Call (SpellsCall dialect)
 
   abbrev ValueForm : RightSide → Tokens → Type 0
-  ValueForm = Made right.Value (SpellsWhole full)
+  ValueForm = Made right.Value (SpellsWhole dialect)
 
   call-only : (r : RightSide) (w m : Tokens) → Right r w → RightEnds m → begins_call (w ++ m) ≡ true → CallForm r w
   call-only r w m (inl text) ends there = text
-  call-only r w m (inr (e, is, text)) ends there = absurd (false≢true (sym (expression-no-call full loosest_level e w m text (right-ends m ends).0) ∙ there))
+  call-only r w m (inr (e, is, text)) ends there = absurd (false≢true (sym (expression-no-call dialect loosest_level e w m text (right-ends m ends).0) ∙ there))
 
   value-only : (r : RightSide) (w m : Tokens) → Right r w → RightEnds m → begins_call (w ++ m) ≡ false → ValueForm r w
-  value-only r w m (inl (c, is, text)) ends none = absurd (false≢true (sym none ∙ call-begins full c w m text))
+  value-only r w m (inl (c, is, text)) ends none = absurd (false≢true (sym none ∙ call-begins dialect c w m text))
   value-only r w m (inr text) ends none = text
 
   some-call : (w : Tokens) → begins_call (w ++ []) ≡ true → 0 < length w
@@ -72,7 +73,7 @@ module _ (full : Bool) where
   a_call : (t : Placed Token) → is_name t ≡ true → (r : RightSide) × (v : Tokens) × CallForm r (t ∷ v)
   a_call t is =
       let x = some-of (name_of t) is in
-      let n = no_arguments full in
+      let n = no_arguments dialect in
       (right.Call (call_of (x.0, n.0)), n.1, (call_of (x.0, n.0), refl, ((x.0, n.0), refl, (t ∷ [], n.1, refl, (t, refl, x.1), n.2))))
 
   a_value : (t : Placed Token) → is_name t ≡ true → (r : RightSide) × (v : Tokens) × ValueForm r (t ∷ v)
@@ -85,50 +86,50 @@ module _ (full : Bool) where
         (
           e,
           refl,
-          single full 10 1 e (t ∷ []) refl (value full l e (t ∷ []) refl
-              (lvalue full (base.Variable x.0) [] (t ∷ []) [] l (t ∷ []) refl refl (inl (x.0, refl, (t, refl, x.1))) (no_part full [] [] refl refl))),
+          single dialect 10 1 e (t ∷ []) refl (value dialect l e (t ∷ []) refl
+              (lvalue dialect (base.Variable x.0) [] (t ∷ []) [] l (t ∷ []) refl refl (inl (x.0, refl, (t, refl, x.1))) (no_part dialect [] [] refl refl))),
         ),
       )
 
   module _ (before after : Tokens) where
     module _ (there : begins_call before ≡ true) where
-      call-read : (c : Call) → Reached (SpellsCall full) Anything before after c → Reached Right RightEnds before after (right.Call c)
+      call-read : (c : Call) → Reached (SpellsCall dialect) Anything before after c → Reached Right RightEnds before after (right.Call c)
       call-read c part = chosen-read is_name is_opening Right CallForm RightEnds Anything true (λ r w text. inl text) call-only
-          (λ r w text. some-call w (call-begins full text.0 w [] text.2)) (λ m ends. tt) before after there (right.Call c)
-          (last CallForm Anything before (SpellsCall full) Anything before after right.Call (made right.Call (SpellsCall full) Anything before) (λ m follows. follows) c part)
+          (λ r w text. some-call w (call-begins dialect text.0 w [] text.2)) (λ m ends. tt) before after there (right.Call c)
+          (last CallForm Anything before (SpellsCall dialect) Anything before after right.Call (made right.Call (SpellsCall dialect) Anything before) (λ m follows. follows) c part)
 
-      call-stuck : Stuck (SpellsCall full) Anything before after → Stuck Right RightEnds before after
+      call-stuck : Stuck (SpellsCall dialect) Anything before after → Stuck Right RightEnds before after
       call-stuck part = chosen-stuck is_name is_opening Right CallForm RightEnds Anything true (λ r w text. inl text) call-only
-          (λ r w text. some-call w (call-begins full text.0 w [] text.2)) (λ m ends. tt) before after there tt a_call
-          (last-stuck CallForm Anything before (SpellsCall full) Anything before after right.Call (made right.Call (SpellsCall full) Anything before) (λ m follows. follows) part)
+          (λ r w text. some-call w (call-begins dialect text.0 w [] text.2)) (λ m ends. tt) before after there tt a_call
+          (last-stuck CallForm Anything before (SpellsCall dialect) Anything before after right.Call (made right.Call (SpellsCall dialect) Anything before) (λ m follows. follows) part)
 
     module _ (none : begins_call before ≡ false) where
-      value-read : (e : Expression) → Reached (SpellsWhole full) (Ends loosest_level) before after e → Reached Right RightEnds before after (right.Value e)
+      value-read : (e : Expression) → Reached (SpellsWhole dialect) (Ends loosest_level) before after e → Reached Right RightEnds before after (right.Value e)
       value-read e part = chosen-read is_name is_opening Right ValueForm RightEnds (Ends loosest_level) false (λ r w text. inr text) value-only
-          (λ r w text. expression-some full loosest_level text.0 w text.2) (λ m ends. (right-ends m ends).1) before after none (right.Value e)
-          (last ValueForm (Ends loosest_level) before (SpellsWhole full) (Ends loosest_level) before after right.Value (made right.Value (SpellsWhole full) (Ends loosest_level) before) (λ m follows. follows) e part)
+          (λ r w text. expression-some dialect loosest_level text.0 w text.2) (λ m ends. (right-ends m ends).1) before after none (right.Value e)
+          (last ValueForm (Ends loosest_level) before (SpellsWhole dialect) (Ends loosest_level) before after right.Value (made right.Value (SpellsWhole dialect) (Ends loosest_level) before) (λ m follows. follows) e part)
 
-      value-stuck : Stuck (SpellsWhole full) (Ends loosest_level) before after → Stuck Right RightEnds before after
+      value-stuck : Stuck (SpellsWhole dialect) (Ends loosest_level) before after → Stuck Right RightEnds before after
       value-stuck part = chosen-stuck is_name is_opening Right ValueForm RightEnds (Ends loosest_level) false (λ r w text. inr text) value-only
-          (λ r w text. expression-some full loosest_level text.0 w text.2) (λ m ends. (right-ends m ends).1) before after none refl a_value
-          (last-stuck ValueForm (Ends loosest_level) before (SpellsWhole full) (Ends loosest_level) before after right.Value (made right.Value (SpellsWhole full) (Ends loosest_level) before) (λ m follows. follows) part)
+          (λ r w text. expression-some dialect loosest_level text.0 w text.2) (λ m ends. (right-ends m ends).1) before after none refl a_value
+          (last-stuck ValueForm (Ends loosest_level) before (SpellsWhole dialect) (Ends loosest_level) before after right.Value (made right.Value (SpellsWhole dialect) (Ends loosest_level) before) (λ m follows. follows) part)
 
   -- a name may have been passed before the rest was read
   module _ (passed : Option Named) (ts before : Tokens) (same : before ≡ from_name passed ts) (after : Tokens) where
     module _ (is : is_some passed ≡ true) (there : begins is_opening ts ≡ true) where
-      pub right-call-read : (c : Call) → Reached (SpellsCall full) Anything (from_name passed ts) after c → Reached Right RightEnds before after (right.Call c)
+      pub right-call-read : (c : Call) → Reached (SpellsCall dialect) Anything (from_name passed ts) after c → Reached Right RightEnds before after (right.Call c)
       right-call-read c part =
           subst (λ (l : Tokens). Reached Right RightEnds l after (right.Call c)) (sym same) (call-read (from_name passed ts) after (call-there passed ts is there) c part)
 
-      pub right-call-stuck : Stuck (SpellsCall full) Anything (from_name passed ts) after → Stuck Right RightEnds before after
+      pub right-call-stuck : Stuck (SpellsCall dialect) Anything (from_name passed ts) after → Stuck Right RightEnds before after
       right-call-stuck part =
           subst (λ (l : Tokens). Stuck Right RightEnds l after) (sym same) (call-stuck (from_name passed ts) after (call-there passed ts is there) part)
 
     module _ (none : IfNone passed (begins is_name before ≡ false)) (which : (is_some passed ≡ false) ⊎ (begins is_opening ts ≡ false)) where
-      pub right-value-read : (e : Expression) → Reached (SpellsWhole full) (Ends loosest_level) (from_name passed ts) after e → Reached Right RightEnds before after (right.Value e)
+      pub right-value-read : (e : Expression) → Reached (SpellsWhole dialect) (Ends loosest_level) (from_name passed ts) after e → Reached Right RightEnds before after (right.Value e)
       right-value-read e part = value-read before after (no-call-there passed ts before same none which) e
-          (subst (λ (l : Tokens). Reached (SpellsWhole full) (Ends loosest_level) l after e) (sym same) part)
+          (subst (λ (l : Tokens). Reached (SpellsWhole dialect) (Ends loosest_level) l after e) (sym same) part)
 
-      pub right-value-stuck : Stuck (SpellsWhole full) (Ends loosest_level) (from_name passed ts) after → Stuck Right RightEnds before after
+      pub right-value-stuck : Stuck (SpellsWhole dialect) (Ends loosest_level) (from_name passed ts) after → Stuck Right RightEnds before after
       right-value-stuck part = value-stuck before after (no-call-there passed ts before same none which)
-          (subst (λ (l : Tokens). Stuck (SpellsWhole full) (Ends loosest_level) l after) (sym same) part)
+          (subst (λ (l : Tokens). Stuck (SpellsWhole dialect) (Ends loosest_level) l after) (sym same) part)

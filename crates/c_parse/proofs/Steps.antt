@@ -8,6 +8,8 @@ use Rattle.hw_text.specs.declared.placed.Placed.{Placed}
 use Rattle.hw_text.specs.Language.{◌⋅◌, Maybe, Each, Made, ◌∣◌}
 use Rattle.hw_text.specs.Reading.{first, begins, Begins, Anything, Reached, Stuck, Reads, Leaves}
 use Rattle.hw_text.proofs.Reading.{begun, step, stuck, last, last-stuck, left, right, refined, unmade, some, none, ended, failed, first-begins, never-begins, never-follows}
+use Rattle.c_tree.specs.declared.dialect.Dialect.{Dialect}
+use Rattle.c_tree.specs.Dialects.{is_full}
 use Rattle.c_parse.specs.declared.token.Token.{Token}
 use Rattle.c_parse.specs.Values.{Tokens}
 use Rattle.c_parse.specs.ExpressionGrammar.{InFull}
@@ -51,9 +53,9 @@ by_test {at = at} {test = test} {so = so} is none_there = record {
 }
 
 -- texts of the full grammar begin so; this is not the full one, or what stands here does not
-pub by_full : {Y : Type 0} {F : Tokens → Type 0} {at : Tokens} {B : Y → Tokens → Type 0} {test : Placed Token → Bool} (full : Bool) → Begins test true B → (full && begins test at) ≡ false → Excluded F at (InFull full B)
-by_full {at = at} {test = test} full is none_there = record {
-  none = λ y w m text follows same. other_way (begins test (w ++ m)) (begins test at) true (is y w m text.1) (first-begins test (w ++ m) at same) (and-right full (begins test at) none_there text.0);
+pub by_full : {Y : Type 0} {F : Tokens → Type 0} {at : Tokens} {B : Y → Tokens → Type 0} {test : Placed Token → Bool} (dialect : Dialect) → Begins test true B → (is_full dialect && begins test at) ≡ false → Excluded F at (InFull dialect B)
+by_full {at = at} {test = test} dialect is none_there = record {
+  none = λ y w m text follows same. other_way (begins test (w ++ m)) (begins test at) true (is y w m text.1) (first-begins test (w ++ m) at same) (and-right (is_full dialect) (begins test at) none_there text.0);
 }
 
 pub either_way : {Y : Type 0} {F : Tokens → Type 0} {at : Tokens} {B C : Y → Tokens → Type 0} → Excluded F at B → Excluded F at C → Excluded F at (B ∣ C)
@@ -83,8 +85,8 @@ module _ {Z : Type 0} {A : Z → Tokens → Type 0} {F : Tokens → Type 0} {bef
   at_second {build = build} {B = B} {C = C} so never = right A F before at build B C never.none so
 
   -- what the full grammar has stands here
-  pub in_full : {Y : Type 0} {build : Y → Z} {full : Bool} {B : Y → Tokens → Type 0} → Leaves A F before at build (InFull full B) → IsTrue full → Leaves A F before at build B
-  in_full {build = build} {full = full} {B = B} so is = refined A F before at build (InFull full B) (λ y. y) B so (λ y v text. (is, text)) (λ y v m text follows same. (y, refl, text.1))
+  pub in_full : (dialect : Dialect) {Y : Type 0} {build : Y → Z} {B : Y → Tokens → Type 0} → Leaves A F before at build (InFull dialect B) → IsTrue (is_full dialect) → Leaves A F before at build B
+  in_full dialect {build = build} {B = B} so is = refined A F before at build (InFull dialect B) (λ y. y) B so (λ y v text. (is, text)) (λ y v m text follows same. (y, refl, text.1))
 
   -- the value as it is made
   pub remake : {Y : Type 0} {build : Y → Z} {B : Y → Tokens → Type 0} → Leaves A F before at build B → Leaves A F before at (λ z. z) (Made build B)

@@ -15,6 +15,7 @@ use Rattle.c_parse.specs.declared.token.Token.{Token}
 use Rattle.c_parse.specs.declared.token.Token.TheVariants as token
 use Rattle.c_parse.specs.declared.keyword.Keyword.TheVariants as keyword
 use Rattle.c_parse.specs.declared.mark.Mark.TheVariants as mark
+use Rattle.c_tree.specs.Spellings.{zero}
 use Rattle.c_parse.specs.Tokens.{start}
 use Rattle.c_parse.specs.Values.{Tokens, mark_of, keyword_of, name_of, literal_of, integer_of, is_mark, is_word, is_integer}
 use Rattle.c_parse.specs.ExpressionGrammar.{Sign, Name}
@@ -104,7 +105,7 @@ negative-begins = made-begins is_minus true (Sign mark.Minus ⋅ One literal_of)
     (then-begins is_minus true (Sign mark.Minus) (One literal_of) (one-begins is_minus true (mark_of mark.Minus) (λ t p is. some-is (mark_of mark.Minus t) p is)))
 
 abbrev pub a_literal : (l : Literal) × (w : Tokens) × One literal_of l w
-a_literal = (record { numeral = 48 ∷ []; place = start }, record { token = token.Literal (48 ∷ []); place = start } ∷ [], (record { token = token.Literal (48 ∷ []); place = start }, refl, refl))
+a_literal = (record { numeral = zero; place = start }, record { token = token.Literal zero; place = start } ∷ [], (record { token = token.Literal zero; place = start }, refl, refl))
 
 module _ (before : Tokens) where
   signed_begun : Leaves SpellsSigned Anything before before (λ l. l) SpellsSigned

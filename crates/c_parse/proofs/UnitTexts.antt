@@ -1,18 +1,19 @@
 -- What has been read of the items of a unit is what has been read of the unit.
-use Rattle.std.proofs.Common.{◌∙◌, refl, ap, List, Bool}
+use Rattle.std.proofs.Common.{◌∙◌, refl, ap, List}
 use Rattle.hw_text.specs.declared.place.Place.{Place}
 use Rattle.hw_text.specs.Language.{Each}
 use Rattle.hw_text.specs.Reading.{TheEnd, Reached, Stuck}
+use Rattle.c_tree.specs.declared.dialect.Dialect.{Dialect}
 use Rattle.c_tree.specs.declared.item.Item.{Item}
 use Rattle.c_tree.specs.declared.unit.Unit.{Unit as CUnit}
 use Rattle.c_parse.specs.Values.{Tokens}
 use Rattle.c_parse.specs.UnitGrammar.{SpellsItem, SpellsUnit}
 
-module _ (full : Bool) (end : Place) (before after : Tokens) where
+module _ (dialect : Dialect) (end : Place) (before after : Tokens) where
   unit_of : List Item → CUnit
   unit_of items = record { items = items; end = end }
 
-  pub unit-read : (items : List Item) → Reached (Each (SpellsItem full)) TheEnd before after items → Reached (SpellsUnit full end) TheEnd before after (record { items = items; end = end })
+  pub unit-read : (items : List Item) → Reached (Each (SpellsItem dialect)) TheEnd before after items → Reached (SpellsUnit dialect end) TheEnd before after (record { items = items; end = end })
   unfolding unit_of
   unit-read items so = record {
     taken = so.taken;
@@ -23,7 +24,7 @@ module _ (full : Bool) (end : Place) (before after : Tokens) where
         (ap (λ (p : Place). record { items = u.items; end = p }) text.1 ∙ ap unit_of one.0, one.1);
   }
 
-  pub unit-stuck : Stuck (Each (SpellsItem full)) TheEnd before after → Stuck (SpellsUnit full end) TheEnd before after
+  pub unit-stuck : Stuck (Each (SpellsItem dialect)) TheEnd before after → Stuck (SpellsUnit dialect end) TheEnd before after
   unfolding unit_of
   unit-stuck so = record {
     taken = so.taken;

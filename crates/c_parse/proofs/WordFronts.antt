@@ -9,6 +9,9 @@ use Rattle.std.specs.List.{list_all}
 use Rattle.std.specs.Str.{bytes_eq}
 use Rattle.hw_text.specs.Reading.{begins}
 use Rattle.c_tree.specs.Words.{is_word, begins_name, continues_name, is_spelled_as_name, is_identifier}
+use Rattle.c_tree.specs.Spellings.{identifier_of}
+use Rattle.c_tree.proofs.Spellings.{identifier_of_bytes}
+use Rattle.c_tree.specs.declared.identifier.Identifier.{Identifier}
 use Rattle.c_tree.specs.declared.integer_type.IntegerType.TheVariants as integer
 use Rattle.c_parse.specs.Blanks.{skipped}
 use Rattle.c_parse.specs.Keywords.{keyword_text, all_keywords, keyword_among, keyword_named}
@@ -98,17 +101,22 @@ none-named bs (Some w) is other =
     absurd (false≢true (sym other ∙ ap is_word (among-spelled all_keywords bs w is) ∙ keyword-word w))
 
 pub name-letter : (n : List ℕ) → is_identifier n ≡ true → (b : ℕ) × (bs : List ℕ) × (n ≡ b ∷ bs) × (begins_name b ≡ true)
+unfolding is_identifier
 name-letter [] h = absurd (false≢true h)
 name-letter (b ∷ bs) h =
     (b, bs, refl, (and_parts (begins_name b) (list_all continues_name bs) (and_parts (is_spelled_as_name (b ∷ bs)) (not (is_word (b ∷ bs))) h).0).0)
 
-pub name-stands : (n rest : List ℕ) → is_identifier n ≡ true → Ended rest → StandsBefore n (token.Name n) rest
-name-stands [] rest name ended = absurd (false≢true name)
-name-stands (b ∷ bs) rest name ended =
+stands-so : (n rest : List ℕ) (x : Identifier) → identifier_of n ≡ Some x → is_identifier n ≡ true → Ended rest → StandsBefore n (token.Name x) rest
+unfolding is_identifier
+stands-so [] rest x is name ended = absurd (false≢true name)
+stands-so (b ∷ bs) rest x is name ended =
     let both = and_parts (is_spelled_as_name (b ∷ bs)) (not (is_word (b ∷ bs))) name in
     let parts = and_parts (begins_name b) (list_all continues_name bs) both.0 in
     let none = none-named (b ∷ bs) (keyword_named (b ∷ bs)) refl (not-true (is_word (b ∷ bs)) both.1) in
-    (word-kept b (bs ++ rest) (begins-continues b parts.0), word-front b bs rest parts.0 parts.1 ended ∙ rw (none, name) refl)
+    (word-kept b (bs ++ rest) (begins-continues b parts.0), word-front b bs rest parts.0 parts.1 ended ∙ rw (none, is) refl)
+
+pub name-stands : (x : Identifier) (rest : List ℕ) → Ended rest → StandsBefore x.bytes (token.Name x) rest
+name-stands x rest ended = stands-so x.bytes rest x (identifier_of_bytes x) x.spelled ended
 
 -- letters that spell the word
 abbrev IsSpelledSo : Keyword → List ℕ → Type 0

@@ -1,7 +1,6 @@
 -- Texts that are written piece by piece: which tokens the bytes of a piece are, whatever is written behind it.
 use Rattle.std.proofs.Common.{◌≡◌, ℕ, Bool, true, false, ◌==◌, List, [], ◌∷◌, ◌++◌, map, length, None, refl, sym, ap, ◌∙◌, subst, append_assoc, arith}
 use Rattle.std.proofs.lemmas.Bool.{eqb-true}
-use Rattle.std.proofs.lemmas.List.Elements.{All-nil, All-cons, All-head, All-tail}
 use Rattle.std.specs.List.{flat_map}
 use Rattle.std.specs.Prelude.{⊤}
 use Rattle.hw_text.specs.Places.{place_of_rest}
@@ -9,7 +8,6 @@ use Rattle.hw_text.specs.Tokens.{AreTokensOf}
 use Rattle.hw_text.specs.declared.place.Place.{Place}
 use Rattle.hw_text.specs.declared.placed.Placed.{Placed}
 use Rattle.c_parse.specs.declared.token.Token.{Token}
-use Rattle.c_parse.proofs.Allowed.{IsAllowed, AreAllowed}
 use Rattle.c_parse.specs.Blanks.{first_skipped, skipped}
 use Rattle.c_parse.specs.Lexed.{IsLexedAs}
 use Rattle.c_parse.specs.Marks.{mark_at}
@@ -28,7 +26,7 @@ pub record Has (bytes : List ℕ) (ts : List Token) : Type 0 where
 
 -- before what `Q` holds of, the bytes are these tokens
 pub record Writes (Q : List ℕ → Type 0) (bytes : List ℕ) (ts : List Token) : Type 0 where
-  pub before : (rest : List ℕ) (us : List Token) → Q rest → AreAllowed ts → Has rest us → Has (bytes ++ rest) (ts ++ us)
+  pub before : (rest : List ℕ) (us : List Token) → Q rest → Has rest us → Has (bytes ++ rest) (ts ++ us)
 
 -- bytes that have no token
 pub record IsGap (gap : List ℕ) : Type 0 where
@@ -51,9 +49,9 @@ token-next text t rest us front more = record {
       (placed ∷ behind.0, behind.1, ap (λ (ts : List Token). t ∷ ts) behind.2, (rest, front.1, refl, behind.3));
 }
 
-pub token : (Q : List ℕ → Type 0) (text : List ℕ) (t : Token) → ((rest : List ℕ) → IsAllowed t → Q rest → StandsBefore text t rest) → Writes Q text (t ∷ [])
+pub token : (Q : List ℕ → Type 0) (text : List ℕ) (t : Token) → ((rest : List ℕ) → Q rest → StandsBefore text t rest) → Writes Q text (t ∷ [])
 token Q text t stands = record {
-  before = λ rest us q allowed more. token-next text t rest us (stands rest (All-head IsAllowed t [] allowed) q) more;
+  before = λ rest us q more. token-next text t rest us (stands rest q) more;
 }
 
 moved : (a b : List ℕ) (us : List Token) → skipped a ≡ skipped b → Has b us → Has a us
@@ -96,47 +94,37 @@ at_line_start (b ∷ bs) us has = begun (b == 35) b bs us refl has
 pub newline : IsGap (10 ∷ [])
 newline = record { before = λ rest us has. moved (10 ∷ rest) rest us (at_line_start rest us has) has }
 
-all-left : (ts us : List Token) → AreAllowed (ts ++ us) → AreAllowed ts
-all-left [] us all = All-nil IsAllowed
-all-left (t ∷ ts) us all = All-cons IsAllowed t ts (All-head IsAllowed t (ts ++ us) all) (all-left ts us (All-tail IsAllowed t (ts ++ us) all))
-
-all-right : (ts us : List Token) → AreAllowed (ts ++ us) → AreAllowed us
-all-right [] us all = all
-all-right (t ∷ ts) us all = all-right ts us (All-tail IsAllowed t (ts ++ us) all)
-
 module _ {Q R : List ℕ → Type 0} {s t : List ℕ} {ts us : List Token} where
   -- one behind the other
-  pub both : Writes Q s ts → Writes R t us → ((rest : List ℕ) → AreAllowed us → R rest → Q (t ++ rest)) → Writes R (s ++ t) (ts ++ us)
+  pub both : Writes Q s ts → Writes R t us → ((rest : List ℕ) → R rest → Q (t ++ rest)) → Writes R (s ++ t) (ts ++ us)
   both a b fits = record {
-    before = λ rest vs r all more.
-        let right : AreAllowed us = all-right ts us all in
-        let behind = b.before rest vs r right more in
-        let whole = a.before (t ++ rest) (us ++ vs) (fits rest right r) (all-left ts us all) behind in
+    before = λ rest vs r more.
+        let whole = a.before (t ++ rest) (us ++ vs) (fits rest r) (b.before rest vs r more) in
         subst (λ (l : List Token). Has (s ++ t ++ rest) l) (sym (append_assoc ts us vs))
         (subst (λ (bs : List ℕ). Has bs (ts ++ (us ++ vs))) (sym (append_assoc s t rest)) whole);
   }
 
 -- one behind the other, where anything may stand behind the first
 pub next : {R : List ℕ → Type 0} {s t : List ℕ} {ts us : List Token} → Writes Anything s ts → Writes R t us → Writes R (s ++ t) (ts ++ us)
-next a b = both a b (λ rest allowed r. tt)
+next a b = both a b (λ rest r. tt)
 
 module _ {Q : List ℕ → Type 0} {s : List ℕ} {ts : List Token} where
   -- with blanks behind it
   pub blank-behind : (gap : List ℕ) → IsGap gap → Writes Q s ts → ((rest : List ℕ) → Q (gap ++ rest)) → Writes Anything (s ++ gap) ts
   blank-behind gap none a fits = record {
-    before = λ rest vs r all more.
-        subst (λ (bs : List ℕ). Has bs (ts ++ vs)) (sym (append_assoc s gap rest)) (a.before (gap ++ rest) vs (fits rest) all (none.before rest vs more));
+    before = λ rest vs r more.
+        subst (λ (bs : List ℕ). Has bs (ts ++ vs)) (sym (append_assoc s gap rest)) (a.before (gap ++ rest) vs (fits rest) (none.before rest vs more));
   }
 
   -- with blanks before it
   pub blank-before : (gap : List ℕ) → IsGap gap → Writes Q s ts → Writes Q (gap ++ s) ts
   blank-before gap none a = record {
-    before = λ rest vs q all more.
-        subst (λ (bs : List ℕ). Has bs (ts ++ vs)) (sym (append_assoc gap s rest)) (none.before (s ++ rest) (ts ++ vs) (a.before rest vs q all more));
+    before = λ rest vs q more.
+        subst (λ (bs : List ℕ). Has bs (ts ++ vs)) (sym (append_assoc gap s rest)) (none.before (s ++ rest) (ts ++ vs) (a.before rest vs q more));
   }
 
   pub weaker : {R : List ℕ → Type 0} → ((rest : List ℕ) → R rest → Q rest) → Writes Q s ts → Writes R s ts
-  weaker {R} less a = record { before = λ rest vs r all more. a.before rest vs (less rest r) all more }
+  weaker {R} less a = record { before = λ rest vs r more. a.before rest vs (less rest r) more }
 
   -- the same with other words for its tokens and its text
   pub known-as : {t : List ℕ} {us : List Token} → t ≡ s → us ≡ ts → Writes Q s ts → Writes Q t us
@@ -144,7 +132,7 @@ module _ {Q : List ℕ → Type 0} {s : List ℕ} {ts : List Token} where
 
 -- nothing
 pub nothing : {Q : List ℕ → Type 0} → Writes Q [] []
-nothing {Q} = record { before = λ rest vs q all more. more }
+nothing {Q} = record { before = λ rest vs q more. more }
 
 -- members, one behind the other
 pub members : {X : Type 0} (text : X → List ℕ) (tokens : X → List Token) → ((x : X) → Writes Anything (text x) (tokens x)) → (xs : List X) → Writes Anything (flat_map text xs) (flat_map tokens xs)

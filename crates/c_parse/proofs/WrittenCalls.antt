@@ -1,6 +1,7 @@
 -- The canonical texts of lists, calls, and what declarations name have their canonical tokens.
 use Rattle.std.proofs.Common.{ℕ, Bool, true, false, if◌then◌else◌, List, [], ◌∷◌, ◌++◌, map, codes, Option, Some, None, refl}
 use Rattle.std.specs.List.{flat_map}
+use Rattle.c_tree.specs.declared.numeral.Numeral.{Numeral}
 use Rattle.c_tree.specs.declared.named.Literal.{Literal}
 use Rattle.c_tree.specs.declared.named.Named.{Named}
 use Rattle.c_tree.specs.declared.named.SignedLiteral.{SignedLiteral}
@@ -20,8 +21,6 @@ use Rattle.c_parse.specs.declared.keyword.Keyword.TheVariants as keyword
 use Rattle.c_parse.specs.declared.mark.Mark.TheVariants as mark
 use Rattle.c_parse.specs.declared.token.Token.{Token}
 use Rattle.c_parse.specs.declared.token.Token.TheVariants as token
-use Rattle.std.proofs.lemmas.List.Elements.{All-head}
-use Rattle.c_parse.proofs.Allowed.{IsAllowed}
 use Rattle.c_parse.proofs.PrintedPieces.{name, literal, word, integer, closed, mark_space, minus, ampersand, name-no-operator, literal-no-operator}
 use Rattle.c_parse.proofs.WordFronts.{Ended}
 use Rattle.c_parse.proofs.Written.{Writes, Anything, both, next, blank-behind, nothing, space}
@@ -35,21 +34,21 @@ module _ {X : Type 0} (text : X → List ℕ) (tokens : X → List Token) (each 
 
   commas : (xs : List X) → Writes Ended (flat_map behind_comma (map text xs)) (flat_map (behind_comma_tokens tokens) xs)
   commas [] = nothing
-  commas (x ∷ xs) = both (next (mark_space mark.Comma) (each x)) (commas xs) (λ rest allowed ended. commas-ended xs rest ended)
+  commas (x ∷ xs) = both (next (mark_space mark.Comma) (each x)) (commas xs) (λ rest ended. commas-ended xs rest ended)
 
   -- one after another, with commas between
   pub with-commas : (xs : List X) → Writes Ended (with_commas (map text xs)) (separated tokens xs)
   with-commas [] = nothing
-  with-commas (x ∷ xs) = both (each x) (commas xs) (λ rest allowed ended. commas-ended xs rest ended)
+  with-commas (x ∷ xs) = both (each x) (commas xs) (λ rest ended. commas-ended xs rest ended)
 
 handed : (a : Argument) → Writes Ended (argument_text a) (argument_tokens a)
-handed (argument.Address at x) = both ampersand (name x.name) (λ rest allowed ended. (name-no-operator x.name rest [] allowed).no_and)
+handed (argument.Address at x) = both ampersand (name x.name) (λ rest ended. (name-no-operator x.name rest).no_and)
 handed (argument.Value x) = expression x
 
 pub call : (c : Call) → Writes Anything (call_text c) (call_tokens c)
 call c =
-    both (next (both (name c.name.name) (closed mark.OpenParenthesis refl) (λ rest allowed any. refl)) (with-commas argument_text argument_tokens handed c.arguments))
-    (closed mark.CloseParenthesis refl) (λ rest allowed any. refl)
+    both (next (both (name c.name.name) (closed mark.OpenParenthesis refl) (λ rest any. refl)) (with-commas argument_text argument_tokens handed c.arguments))
+    (closed mark.CloseParenthesis refl) (λ rest any. refl)
 
 pub right_side : (r : RightSide) → Writes Ended (right_text r) (right_tokens r)
 right_side (right.Call c) = open_ended (call c)
@@ -60,8 +59,8 @@ type_name (class.Integer at kind) = integer kind
 type_name (class.Truth at) = word keyword.Bool
 type_name (class.Defined x) = name x.name
 
-signed_by : (negative : Bool) (n : List ℕ) → Writes Ended ((if negative then codes "-" else []) ++ n) ((if negative then token.Mark mark.Minus ∷ [] else []) ++ token.Literal n ∷ [])
-signed_by true n = both minus (literal n) (λ rest allowed ended. (literal-no-operator n rest (All-head IsAllowed (token.Literal n) [] allowed)).no_sign)
+signed_by : (negative : Bool) (n : Numeral) → Writes Ended ((if negative then codes "-" else []) ++ n.bytes) ((if negative then token.Mark mark.Minus ∷ [] else []) ++ token.Literal n ∷ [])
+signed_by true n = both minus (literal n) (λ rest ended. (literal-no-operator n rest).no_sign)
 signed_by false n = literal n
 
 pub signed : (l : SignedLiteral) → Writes Ended (signed_text l) (signed_tokens l)
@@ -70,7 +69,7 @@ signed l = signed_by l.negative l.literal.numeral
 pub length_of : (o : Option Literal) → Writes Ended (length_text o) (length_tokens o)
 length_of None = nothing
 length_of (Some l) =
-    open_ended (both (next (closed mark.OpenBracket refl) (literal l.numeral)) (closed mark.CloseBracket refl) (λ rest allowed any. refl))
+    open_ended (both (next (closed mark.OpenBracket refl) (literal l.numeral)) (closed mark.CloseBracket refl) (λ rest any. refl))
 
 length-ended : (o : Option Literal) (rest : List ℕ) → Ended rest → Ended (length_text o ++ rest)
 length-ended None rest ended = ended
@@ -78,4 +77,4 @@ length-ended (Some l) rest ended = refl
 
 pub declared : (t : TypeName) (x : Named) (o : Option Literal) → Writes Ended (declared_text t x o) (declared_tokens t x o)
 declared t x o =
-    both (next (blank-behind (codes " ") space (type_name t) (λ rest. refl)) (name x.name)) (length_of o) (λ rest allowed ended. length-ended o rest ended)
+    both (next (blank-behind (codes " ") space (type_name t) (λ rest. refl)) (name x.name)) (length_of o) (λ rest ended. length-ended o rest ended)

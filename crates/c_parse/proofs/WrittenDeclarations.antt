@@ -45,13 +45,13 @@ typedef_enum = next (next (word_space keyword.Typedef) (word_space keyword.Enum)
 pub enumeration : (e : Enumeration) → Writes Anything (enumeration_text e) (enumeration_tokens e)
 enumeration e =
     let names = e.first ∷ e.others in
-    let inner = both (next typedef_enum (with-commas name_text name_tokens (λ x. name x.name) names)) brace_space (λ rest allowed any. refl) in
+    let inner = both (next typedef_enum (with-commas name_text name_tokens (λ x. name x.name) names)) brace_space (λ rest any. refl) in
     let opening : List Token = token.Keyword keyword.Typedef ∷ token.Keyword keyword.Enum ∷ token.Mark mark.OpenBrace ∷ separated name_tokens names in
     known-as refl (three-behind opening (token.Mark mark.CloseBrace) (token.Name e.name.name) (token.Mark mark.Semicolon))
-    (ended_line (both (next inner (name e.name.name)) semicolon (λ rest allowed any. refl)) (λ rest. tt))
+    (ended_line (both (next inner (name e.name.name)) semicolon (λ rest any. refl)) (λ rest. tt))
 
 member : (m : Member) → Writes Anything (member_text m) (member_tokens m)
-member m = both (declared m.class m.name m.length) (mark_space mark.Semicolon) (λ rest allowed any. refl)
+member m = both (declared m.class m.name m.length) (mark_space mark.Semicolon) (λ rest any. refl)
 
 typedef_struct : Writes Anything structure_opening (token.Keyword keyword.Typedef ∷ token.Keyword keyword.Struct ∷ token.Mark mark.OpenBrace ∷ [])
 unfolding structure_opening
@@ -63,7 +63,7 @@ structure s =
     let inner = next (next typedef_struct (members member_text member_tokens member all)) closed_space in
     let opening : List Token = token.Keyword keyword.Typedef ∷ token.Keyword keyword.Struct ∷ token.Mark mark.OpenBrace ∷ flat_map member_tokens all in
     known-as refl (three-behind opening (token.Mark mark.CloseBrace) (token.Name s.name.name) (token.Mark mark.Semicolon))
-    (ended_line (both (next inner (name s.name.name)) semicolon (λ rest allowed any. refl)) (λ rest. tt))
+    (ended_line (both (next inner (name s.name.name)) semicolon (λ rest any. refl)) (λ rest. tt))
 
 pub static : (b : Bool) → Writes Anything (static_text b) (static_tokens b)
 static true = word_space keyword.Static
@@ -85,8 +85,8 @@ initial-ended (Some (initial.Enumerator x)) rest ended = refl
 
 pub variable : (v : Variable) → Writes Anything (variable_text v) (variable_tokens v)
 variable v =
-    ended_line (both (both (next (static v.is_static) (declared v.class v.name v.length)) (initial_value v.initial) (λ rest allowed ended. initial-ended v.initial rest ended))
-    semicolon (λ rest allowed any. refl)) (λ rest. tt)
+    ended_line (both (both (next (static v.is_static) (declared v.class v.name v.length)) (initial_value v.initial) (λ rest ended. initial-ended v.initial rest ended))
+    semicolon (λ rest any. refl)) (λ rest. tt)
 
 pub external : (x : External) → Writes Anything (external_text x) (external_tokens x)
-external x = ended_line (both (next (word_space keyword.Extern) (declared x.class x.name x.length)) semicolon (λ rest allowed any. refl)) (λ rest. tt)
+external x = ended_line (both (next (word_space keyword.Extern) (declared x.class x.name x.length)) semicolon (λ rest any. refl)) (λ rest. tt)

@@ -21,7 +21,7 @@ use Rattle.c_parse.specs.PrintedExpressions.{Written, unary_mark, binary_mark, g
 use Rattle.c_parse.specs.declared.mark.Mark.TheVariants as mark
 use Rattle.c_parse.specs.declared.token.Token.{Token}
 use Rattle.c_parse.specs.declared.token.Token.TheVariants as token
-use Rattle.c_parse.proofs.ExpressionInduction.{Cases, of_each_expression, of_each_lvalue}
+use Rattle.c_tree.proofs.ExpressionInduction.{Cases, of_each_expression, of_each_lvalue}
 use Rattle.c_parse.proofs.MarkFronts.{NoSign, NoEqual}
 use Rattle.c_parse.proofs.PrintedPieces.{name, integer, closed, mark_space, minus, bang}
 use Rattle.c_parse.proofs.WordFronts.{Ended}
@@ -29,10 +29,10 @@ use Rattle.c_parse.proofs.Written.{Writes, Anything, both, next, blank-behind, b
 use Rattle.c_parse.proofs.WrittenOperands.{Fits, PartFits, LvalueFits, ExpressionFits, fits, part_fits, open_ended, number-fits, truth-fits, value-fits, lvalue-fits}
 
 signed : (o : UnaryOperator) (p : Position) (text : Text) (tokens : Written) → Fits text tokens → Writes Ended (unary_sign o p ++ text (position_behind o)) (token.Mark (unary_mark o) ∷ tokens (position_behind o))
-signed unary.Minus BehindMinus text tokens fit = both (blank-before (codes " ") space minus) (fit.written BehindMinus) (λ rest allowed ended. fit.unsigned rest allowed)
-signed unary.Minus Whole text tokens fit = both minus (fit.written BehindMinus) (λ rest allowed ended. fit.unsigned rest allowed)
-signed unary.Minus Operand text tokens fit = both minus (fit.written BehindMinus) (λ rest allowed ended. fit.unsigned rest allowed)
-signed unary.Not p text tokens fit = both bang (fit.written Operand) (λ rest allowed ended. fit.unequal rest allowed)
+signed unary.Minus BehindMinus text tokens fit = both (blank-before (codes " ") space minus) (fit.written BehindMinus) (λ rest ended. fit.unsigned rest)
+signed unary.Minus Whole text tokens fit = both minus (fit.written BehindMinus) (λ rest ended. fit.unsigned rest)
+signed unary.Minus Operand text tokens fit = both minus (fit.written BehindMinus) (λ rest ended. fit.unsigned rest)
+signed unary.Not p text tokens fit = both bang (fit.written Operand) (λ rest ended. fit.unequal rest)
 signed unary.Complement p text tokens fit = next (closed mark.Tilde refl) (fit.written Operand)
 
 unary-no-equal : (o : UnaryOperator) (s rest : List ℕ) → NoEqual (unary_sign o Operand ++ s ++ rest)
@@ -48,15 +48,15 @@ unary-no-sign unary.Complement s rest = (refl, refl)
 unary-fits : (start : Place) (o : UnaryOperator) (at : Place) (x : Expression) → ExpressionFits x → ExpressionFits (roll-Expression (opened.Unary start o at x))
 unary-fits start o at x fit = fits (opened.Unary start o at x) (record {
   written = λ p. signed o p (expression_text x) (expression_tokens x) fit;
-  unequal = λ rest allowed. unary-no-equal o (expression_text x (position_behind o)) rest;
-  unsigned = λ rest allowed. unary-no-sign o (expression_text x (position_behind o)) rest;
+  unequal = λ rest. unary-no-equal o (expression_text x (position_behind o)) rest;
+  unsigned = λ rest. unary-no-sign o (expression_text x (position_behind o)) rest;
 })
 
 cast-fits : (start : Place) (c : IntegerType) (at : Place) (x : Expression) → ExpressionFits x → ExpressionFits (roll-Expression (opened.Cast start c at x))
 cast-fits start c at x fit = fits (opened.Cast start c at x) (record {
-  written = λ p. next (both (next (closed mark.OpenParenthesis refl) (integer c)) (closed mark.CloseParenthesis refl) (λ rest allowed any. refl)) (fit.written Operand);
-  unequal = λ rest allowed. refl;
-  unsigned = λ rest allowed. (refl, refl);
+  written = λ p. next (both (next (closed mark.OpenParenthesis refl) (integer c)) (closed mark.CloseParenthesis refl) (λ rest any. refl)) (fit.written Operand);
+  unequal = λ rest. refl;
+  unsigned = λ rest. (refl, refl);
 })
 
 operator-text : (o : BinaryOperator) → binary_text o ≡ mark_text (binary_mark o)
@@ -79,8 +79,8 @@ joined o left right ls rs a b =
 -- in parentheses or not
 group : (p : Position) (s : List ℕ) (ts : List Token) → Writes Ended s ts → Writes Ended (opening p ++ s ++ closing p) (grouped_tokens p ts)
 group Whole s ts text = subst (λ (bs : List ℕ). Writes Ended bs ts) (sym (append-nil s)) text
-group Operand s ts text = open_ended (both (next (closed mark.OpenParenthesis refl) text) (closed mark.CloseParenthesis refl) (λ rest allowed any. refl))
-group BehindMinus s ts text = open_ended (both (next (closed mark.OpenParenthesis refl) text) (closed mark.CloseParenthesis refl) (λ rest allowed any. refl))
+group Operand s ts text = open_ended (both (next (closed mark.OpenParenthesis refl) text) (closed mark.CloseParenthesis refl) (λ rest any. refl))
+group BehindMinus s ts text = open_ended (both (next (closed mark.OpenParenthesis refl) text) (closed mark.CloseParenthesis refl) (λ rest any. refl))
 
 grouped : (p : Position) (o : BinaryOperator) (l r : List ℕ) (ts : List Token) → Writes Ended (l ++ codes " " ++ binary_text o ++ codes " " ++ r) ts → Writes Ended (opening p ++ l ++ codes " " ++ binary_text o ++ codes " " ++ r ++ closing p) (grouped_tokens p ts)
 grouped Whole o l r ts text = group Whole (l ++ codes " " ++ binary_text o ++ codes " " ++ r) ts text
@@ -95,18 +95,18 @@ binary-fits start o at l r a b =
     let rs : List Token = expression_tokens r Operand in
     fits (opened.Binary start o at l r) (record {
       written = λ p. grouped p o left right (ls ++ token.Mark (binary_mark o) ∷ [] ++ rs) (joined o left right ls rs (a.written Operand) (b.written Operand));
-      unequal = λ rest allowed. refl;
-      unsigned = λ rest allowed. (refl, refl);
+      unequal = λ rest. refl;
+      unsigned = λ rest. (refl, refl);
     })
 
 member-fits : (x : Named) → PartFits (roll-Selector (opened.Member x))
 member-fits x =
-    part_fits (opened.Member x) (codes "." ++ x.name) (token.Mark mark.Dot ∷ token.Name x.name ∷ []) refl refl (next (closed mark.Dot refl) (name x.name)) (λ rest. refl)
+    part_fits (opened.Member x) (codes "." ++ x.name.bytes) (token.Mark mark.Dot ∷ token.Name x.name ∷ []) refl refl (next (closed mark.Dot refl) (name x.name)) (λ rest. refl)
 
 index-fits : (x : Expression) → ExpressionFits x → PartFits (roll-Selector (opened.Index x))
 index-fits x fit =
     part_fits (opened.Index x) (codes "[" ++ expression_text x Whole ++ codes "]") (token.Mark mark.OpenBracket ∷ expression_tokens x Whole ++ token.Mark mark.CloseBracket ∷ [])
-    refl refl (open_ended (both (next (closed mark.OpenBracket refl) (fit.written Whole)) (closed mark.CloseBracket refl) (λ rest allowed any. refl))) (λ rest. refl)
+    refl refl (open_ended (both (next (closed mark.OpenBracket refl) (fit.written Whole)) (closed mark.CloseBracket refl) (λ rest any. refl))) (λ rest. refl)
 
 cases : Cases ExpressionFits PartFits LvalueFits
 cases = record {

@@ -1,5 +1,6 @@
 -- The canonical texts of what statements have beside blocks have their canonical tokens.
 use Rattle.std.proofs.Common.{◌≡◌, ℕ, List, [], ◌∷◌, ◌++◌, codes, refl, append_assoc}
+use Rattle.c_tree.specs.Spellings as numeral
 use Rattle.c_tree.specs.declared.integer_type.IntegerType.{IntegerType}
 use Rattle.c_tree.specs.declared.named.Named.{Named}
 use Rattle.c_tree.specs.declared.named.SignedLiteral.{SignedLiteral}
@@ -21,11 +22,11 @@ pub assign : Writes Anything (codes " = ") (token.Mark mark.Assign ∷ [])
 assign = blank-before (codes " ") space (mark_space mark.Assign)
 
 pub zero : Writes Anything (codes " = {0}") zero_tokens
-zero = next assign (both (next (closed mark.OpenBrace refl) (literal (codes "0"))) (closed mark.CloseBrace refl) (λ rest allowed any. refl))
+zero = next assign (both (next (closed mark.OpenBrace refl) (literal numeral.zero)) (closed mark.CloseBrace refl) (λ rest any. refl))
 
 pub value_of : (v : LocalValue) → Writes Ended (local_text v) (local_tokens v)
 value_of (local.ZeroArray l) =
-    open_ended (both (next (closed mark.OpenBracket refl) (literal l.numeral)) (next (closed mark.CloseBracket refl) zero) (λ rest allowed any. refl))
+    open_ended (both (next (closed mark.OpenBracket refl) (literal l.numeral)) (next (closed mark.CloseBracket refl) zero) (λ rest any. refl))
 value_of local.Zero = open_ended zero
 value_of (local.Given value) = next assign (right_side value)
 
@@ -45,18 +46,18 @@ less = blank-before (codes " ") space (mark_space mark.Less)
 
 pub count-start : (class : IntegerType) (x : Named) (from : SignedLiteral) → Writes Anything (count_start_text class x from) (count_start_tokens class x from)
 count-start class x from =
-    let begun = both (next (next for_parenthesis (blank-behind (codes " ") space (integer class) (λ rest. refl))) (name x.name)) assign (λ rest allowed any. refl) in
-    both (next begun (signed from)) (mark_space mark.Semicolon) (λ rest allowed any. refl)
+    let begun = both (next (next for_parenthesis (blank-behind (codes " ") space (integer class) (λ rest. refl))) (name x.name)) assign (λ rest any. refl) in
+    both (next begun (signed from)) (mark_space mark.Semicolon) (λ rest any. refl)
 
 end-tokens : (below : List Token) (x l s i c : Token) → (x ∷ l ∷ below) ++ s ∷ x ∷ i ∷ c ∷ [] ≡ (x ∷ l ∷ below) ++ s ∷ [] ++ x ∷ [] ++ (i ∷ c ∷ [])
 end-tokens below x l s i c = simp append_assoc
 
 pub count-end : (x : Named) (below : SignedLiteral) → Writes Anything (count_end_text x below) (count_end_tokens x below)
 count-end x below =
-    let compared = next (both (name x.name) less (λ rest allowed any. refl)) (signed below) in
-    let stepped = next (both compared (mark_space mark.Semicolon) (λ rest allowed any. refl)) (name x.name) in
+    let compared = next (both (name x.name) less (λ rest any. refl)) (signed below) in
+    let stepped = next (both compared (mark_space mark.Semicolon) (λ rest any. refl)) (name x.name) in
     known-as refl (end-tokens (signed_tokens below) (token.Name x.name) (token.Mark mark.Less) (token.Mark mark.Semicolon) (token.Mark mark.Increment) (token.Mark mark.CloseParenthesis))
-    (both stepped (next (closed mark.Increment refl) (closed mark.CloseParenthesis refl)) (λ rest allowed any. refl))
+    (both stepped (next (closed mark.Increment refl) (closed mark.CloseParenthesis refl)) (λ rest any. refl))
 
 pub forever-head : Writes Anything forever_text forever_tokens
 unfolding forever_text

@@ -1,6 +1,5 @@
 -- The canonical texts of operands, parts and lvalues have their canonical tokens.
 use Rattle.std.proofs.Common.{◌≡◌, ℕ, Bool, true, false, List, [], ◌∷◌, ◌++◌, map, codes, refl, sym, subst, append_assoc}
-use Rattle.std.proofs.lemmas.List.Elements.{All-head}
 use Rattle.std.specs.List.{flat_map}
 use Rattle.hw_text.specs.declared.place.Place.{Place}
 use Rattle.c_tree.specs.declared.named.Literal.{Literal}
@@ -17,12 +16,10 @@ use Rattle.c_tree.specs.declared.expression.Expression.TheOpen as opened
 use Rattle.c_tree.specs.declared.expression.Expression.TheViews.{roll-Expression, roll-Selector, roll-Lvalue}
 use Rattle.c_tree.specs.Expressions.{Text, base_text, expression_step, selector_step, lvalue_step, expression_text, selector_text, lvalue_text}
 use Rattle.c_tree.specs.Printing.{truth_text}
-use Rattle.c_parse.proofs.Allowed.{IsAllowed, AreAllowed}
 use Rattle.c_parse.specs.PrintedExpressions.{Written, base_tokens, expression_tokens_step, selector_tokens_step, lvalue_tokens_step, expression_tokens, selector_tokens, lvalue_tokens}
 use Rattle.c_parse.specs.declared.mark.Mark.TheVariants as mark
 use Rattle.c_parse.specs.declared.token.Token.{Token}
-use Rattle.c_parse.specs.declared.token.Token.TheVariants as token
-use Rattle.c_parse.proofs.ExpressionInduction.{OfEach}
+use Rattle.c_tree.proofs.ExpressionInduction.{OfEach}
 use Rattle.c_parse.proofs.MarkFronts.{NoSign, NoEqual}
 use Rattle.c_parse.proofs.PrintedPieces.{name, literal, truth, closed, NoOperator, name-no-operator, literal-no-operator}
 use Rattle.c_parse.proofs.WordFronts.{Ended}
@@ -31,8 +28,8 @@ use Rattle.c_parse.proofs.Written.{Writes, Anything, both, next, weaker, nothing
 -- in each position, a text with its tokens, with which no operator before it goes on
 pub record Fits (text : Text) (tokens : Written) : Type 0 where
   pub written : (p : Position) → Writes Ended (text p) (tokens p)
-  pub unequal : (rest : List ℕ) → AreAllowed (tokens Operand) → NoEqual (text Operand ++ rest)
-  pub unsigned : (rest : List ℕ) → AreAllowed (tokens BehindMinus) → NoSign (text BehindMinus ++ rest)
+  pub unequal : (rest : List ℕ) → NoEqual (text Operand ++ rest)
+  pub unsigned : (rest : List ℕ) → NoSign (text BehindMinus ++ rest)
 
 pub record PartFits (s : Selector) : Type 0 where
   pub written : Writes Ended (selector_text s) (selector_tokens s)
@@ -40,7 +37,7 @@ pub record PartFits (s : Selector) : Type 0 where
 
 pub record LvalueFits (l : Lvalue) : Type 0 where
   pub written : Writes Ended (lvalue_text l) (lvalue_tokens l)
-  pub begun : (rest : List ℕ) → AreAllowed (lvalue_tokens l) → NoOperator (lvalue_text l ++ rest)
+  pub begun : (rest : List ℕ) → NoOperator (lvalue_text l ++ rest)
 
 abbrev pub ExpressionFits : Expression → Type 0
 ExpressionFits x = Fits (expression_text x) (expression_tokens x)
@@ -72,8 +69,8 @@ open_ended w = weaker (λ rest ended. tt) w
 pub number-fits : (start : Place) (l : Literal) → ExpressionFits (roll-Expression (opened.Number start l))
 number-fits start l = fits (opened.Number start l) (record {
   written = λ p. literal l.numeral;
-  unequal = λ rest allowed. (literal-no-operator l.numeral rest (All-head IsAllowed (token.Literal l.numeral) [] allowed)).no_equal;
-  unsigned = λ rest allowed. (literal-no-operator l.numeral rest (All-head IsAllowed (token.Literal l.numeral) [] allowed)).no_sign;
+  unequal = λ rest. (literal-no-operator l.numeral rest).no_equal;
+  unsigned = λ rest. (literal-no-operator l.numeral rest).no_sign;
 })
 
 truth-no-equal : (b : Bool) (rest : List ℕ) → NoEqual (truth_text b ++ rest)
@@ -87,15 +84,15 @@ truth-no-sign false rest = (refl, refl)
 pub truth-fits : (start : Place) (b : Bool) → ExpressionFits (roll-Expression (opened.Truth start b))
 truth-fits start b = fits (opened.Truth start b) (record {
   written = λ p. truth b;
-  unequal = λ rest allowed. truth-no-equal b rest;
-  unsigned = λ rest allowed. truth-no-sign b rest;
+  unequal = λ rest. truth-no-equal b rest;
+  unsigned = λ rest. truth-no-sign b rest;
 })
 
 pub value-fits : (start : Place) (l : Lvalue) → LvalueFits l → ExpressionFits (roll-Expression (opened.Value start l))
 value-fits start l fit = fits (opened.Value start l) (record {
   written = λ p. fit.written;
-  unequal = λ rest allowed. (fit.begun rest allowed).no_equal;
-  unsigned = λ rest allowed. (fit.begun rest allowed).no_sign;
+  unequal = λ rest. (fit.begun rest).no_equal;
+  unsigned = λ rest. (fit.begun rest).no_sign;
 })
 
 -- parts, one behind the other
@@ -107,26 +104,26 @@ parts-ended (p ∷ ps) each rest ended =
 
 parts : (ps : List Selector) → OfEach PartFits ps → Writes Ended (flat_map (λ t. t) (map selector_text ps)) (flat_map (λ ts. ts) (map selector_tokens ps))
 parts [] each = nothing
-parts (p ∷ ps) each = both each.0.written (parts ps each.1) (λ rest allowed ended. parts-ended ps each.1 rest ended)
+parts (p ∷ ps) each = both each.0.written (parts ps each.1) (λ rest ended. parts-ended ps each.1 rest ended)
 
 based : (b : Base) → Writes Ended (base_text b) (base_tokens b)
 based (base.Variable x) = name x.name
 based (base.Pointed at x) =
-    open_ended (both (both (next (closed mark.OpenParenthesis refl) (closed mark.Star refl)) (name x.name) (λ rest allowed ended. tt)) (closed mark.CloseParenthesis refl) (λ rest allowed any. refl))
-based (base.Member x m) = next (both (name x.name) (closed mark.Arrow refl) (λ rest allowed any. refl)) (name m.name)
+    open_ended (both (both (next (closed mark.OpenParenthesis refl) (closed mark.Star refl)) (name x.name) (λ rest ended. tt)) (closed mark.CloseParenthesis refl) (λ rest any. refl))
+based (base.Member x m) = next (both (name x.name) (closed mark.Arrow refl) (λ rest any. refl)) (name m.name)
 
-base-begun : (b : Base) (rest : List ℕ) (us : List Token) → AreAllowed (base_tokens b ++ us) → NoOperator (base_text b ++ rest)
-base-begun (base.Variable x) rest us allowed = name-no-operator x.name rest us allowed
-base-begun (base.Pointed at x) rest us allowed = record { no_sign = (refl, refl); no_equal = refl; no_and = refl }
-base-begun (base.Member x m) rest us allowed =
-    subst NoOperator (sym (append_assoc (x.name ++ codes "->") m.name rest))
-    (subst NoOperator (sym (append_assoc x.name (codes "->") (m.name ++ rest)))
-    (name-no-operator x.name (codes "->" ++ (m.name ++ rest)) (token.Mark mark.Arrow ∷ token.Name m.name ∷ us) allowed))
+base-begun : (b : Base) (rest : List ℕ) → NoOperator (base_text b ++ rest)
+base-begun (base.Variable x) rest = name-no-operator x.name rest
+base-begun (base.Pointed at x) rest = record { no_sign = (refl, refl); no_equal = refl; no_and = refl }
+base-begun (base.Member x m) rest =
+    subst NoOperator (sym (append_assoc (x.name.bytes ++ codes "->") m.name.bytes rest))
+    (subst NoOperator (sym (append_assoc x.name.bytes (codes "->") (m.name.bytes ++ rest)))
+    (name-no-operator x.name (codes "->" ++ (m.name.bytes ++ rest))))
 
-lvalue-is : (b : Base) (ps : List Selector) (text : List ℕ) (tokens : List Token) → lvalue_text (roll-Lvalue (record { base = b; parts = ps })) ≡ text → lvalue_tokens (roll-Lvalue (record { base = b; parts = ps })) ≡ tokens → Writes Ended text tokens → ((rest : List ℕ) → AreAllowed tokens → NoOperator (text ++ rest)) → LvalueFits (roll-Lvalue (record { base = b; parts = ps }))
+lvalue-is : (b : Base) (ps : List Selector) (text : List ℕ) (tokens : List Token) → lvalue_text (roll-Lvalue (record { base = b; parts = ps })) ≡ text → lvalue_tokens (roll-Lvalue (record { base = b; parts = ps })) ≡ tokens → Writes Ended text tokens → ((rest : List ℕ) → NoOperator (text ++ rest)) → LvalueFits (roll-Lvalue (record { base = b; parts = ps }))
 lvalue-is b ps text tokens e is written begun = record {
   written = subst (λ (bs : List ℕ). Writes Ended bs (lvalue_tokens (roll-Lvalue (record { base = b; parts = ps })))) (sym e) (subst (λ (ts : List Token). Writes Ended text ts) (sym is) written);
-  begun = λ rest allowed. subst (λ (bs : List ℕ). NoOperator (bs ++ rest)) (sym e) (begun rest (subst AreAllowed is allowed));
+  begun = λ rest. subst (λ (bs : List ℕ). NoOperator (bs ++ rest)) (sym e) (begun rest);
 }
 
 pub lvalue-fits : (b : Base) (ps : List Selector) → OfEach PartFits ps → LvalueFits (roll-Lvalue (record { base = b; parts = ps }))
@@ -137,5 +134,5 @@ lvalue-fits b ps each =
     lvalue-is b ps (base_text b ++ texts) (base_tokens b ++ tokens)
     (fold-roll-Lvalue Text (List ℕ) (List ℕ) expression_step selector_step lvalue_step z)
     (fold-roll-Lvalue Written (List Token) (List Token) expression_tokens_step selector_tokens_step lvalue_tokens_step z)
-    (both (based b) (parts ps each) (λ rest allowed ended. parts-ended ps each rest ended))
-    (λ rest allowed. subst NoOperator (sym (append_assoc (base_text b) texts rest)) (base-begun b (texts ++ rest) tokens allowed))
+    (both (based b) (parts ps each) (λ rest ended. parts-ended ps each rest ended))
+    (λ rest. subst NoOperator (sym (append_assoc (base_text b) texts rest)) (base-begun b (texts ++ rest)))

@@ -23,9 +23,9 @@ use Rattle.c_parse.specs.declared.keyword.Keyword.TheVariants as keyword
 use Rattle.c_parse.specs.declared.mark.Mark.TheVariants as mark
 use Rattle.c_parse.specs.declared.token.Token.{Token}
 use Rattle.c_parse.specs.declared.token.Token.TheVariants as token
-use Rattle.c_parse.proofs.ExpressionInduction.{OfEach}
+use Rattle.c_tree.proofs.ExpressionInduction.{OfEach}
 use Rattle.c_parse.proofs.PrintedPieces.{name, word, word_space, closed}
-use Rattle.c_parse.proofs.StatementInduction.{Cases, of_each_statement}
+use Rattle.c_tree.proofs.StatementInduction.{Cases, of_each_statement}
 use Rattle.c_parse.proofs.Written.{Writes, Anything, IsGap, both, next, blank-behind, blank-before, nothing, known-as, joined, space, newline}
 use Rattle.c_parse.proofs.WrittenCalls.{call, right_side, type_name}
 use Rattle.c_parse.proofs.WrittenExpressions.{lvalue}
@@ -71,20 +71,20 @@ otherwise-lined z lined =
 local-lined : (class : TypeName) (x : Named) (value : LocalValue) → StatementLined (roll-Statement (opened.Local class x value))
 local-lined class x value = statement-lined (opened.Local class x value) (record {
   written = λ margin gap.
-      both (both (next (blank-behind (codes " ") space (type_name class) (λ rest. refl)) (name x.name)) (value_of value) (λ rest allowed ended. local-ended value rest))
-      semicolon (λ rest allowed any. refl);
+      both (both (next (blank-behind (codes " ") space (type_name class) (λ rest. refl)) (name x.name)) (value_of value) (λ rest ended. local-ended value rest))
+      semicolon (λ rest any. refl);
 })
 
 assign-lined : (target : Lvalue) (value : RightSide) → StatementLined (roll-Statement (opened.Assign target value))
 assign-lined target value = statement-lined (opened.Assign target value) (record {
-  written = λ margin gap. both (next (both (lvalue target) assign (λ rest allowed any. refl)) (right_side value)) semicolon (λ rest allowed any. refl);
+  written = λ margin gap. both (next (both (lvalue target) assign (λ rest any. refl)) (right_side value)) semicolon (λ rest any. refl);
 })
 
 call-lined : (c : Call) → StatementLined (roll-Statement (opened.Call c))
 call-lined c = statement-lined (opened.Call c) (record { written = λ margin gap. next (call c) semicolon })
 
 break-lined : StatementLined (roll-Statement opened.Break)
-break-lined = statement-lined opened.Break (record { written = λ margin gap. both (word keyword.Break) semicolon (λ rest allowed any. refl) })
+break-lined = statement-lined opened.Break (record { written = λ margin gap. both (word keyword.Break) semicolon (λ rest any. refl) })
 
 pub four_spaces : IsGap (codes "    ")
 four_spaces = joined (codes " ") (codes "   ") space (joined (codes " ") (codes "  ") space (joined (codes " ") (codes " ") space space))
@@ -122,7 +122,7 @@ forever-lined body each = statement-lined (opened.Forever body) (record { writte
 branch_lined : (condition : RightSide) (body : List Statement) → OfEach StatementLined body → BranchLined (roll-Branch (record { condition = condition; body = body }))
 branch_lined condition body each = branch-lined (record { condition = condition; body = body }) (record {
   written = λ margin gap.
-      next (both (next (next (word_space keyword.If) (closed mark.OpenParenthesis refl)) (right_side condition)) (closed mark.CloseParenthesis refl) (λ rest allowed any. refl))
+      next (both (next (next (word_space keyword.If) (closed mark.OpenParenthesis refl)) (right_side condition)) (closed mark.CloseParenthesis refl) (λ rest any. refl))
       (block body each margin gap);
 })
 
@@ -131,7 +131,7 @@ nothing-lined = otherwise-lined opened.Nothing (record { written = λ margin gap
 
 block-lined : (body : List Statement) → OfEach StatementLined body → OtherwiseLined (roll-Otherwise (opened.Block body))
 block-lined body each = otherwise-lined (opened.Block body) (record {
-  written = λ margin gap. both (blank-before (codes " ") space (word keyword.Else)) (block body each margin gap) (λ rest allowed any. refl);
+  written = λ margin gap. both (blank-before (codes " ") space (word keyword.Else)) (block body each margin gap) (λ rest any. refl);
 })
 
 cases : Cases OtherwiseLined StatementLined BranchLined

@@ -1,7 +1,8 @@
 -- The grammar of types, literals behind a minus, calls, and what stands on the right (docs/formats/c.md).
-use Rattle.std.specs.Prelude.{◌≡◌, Bool, true, false, List, [], ◌∷◌}
+use Rattle.std.specs.Prelude.{◌≡◌, true, false, List, [], ◌∷◌}
 use Rattle.hw_text.specs.declared.place.Place.{Place}
 use Rattle.hw_text.specs.Language.{One, ◌⋅◌, Each, Made, ◌∣◌}
+use Rattle.c_tree.specs.declared.dialect.Dialect.{Dialect}
 use Rattle.c_tree.specs.declared.integer_type.IntegerType.{IntegerType}
 use Rattle.c_tree.specs.declared.named.Named.{Named}
 use Rattle.c_tree.specs.declared.named.Literal.{Literal}
@@ -56,16 +57,16 @@ abbrev pub address : Place × Named → Argument
 address p = argument.Address p.0 p.1
 
 -- "&" NAME | expr
-abbrev pub SpellsArgument : Bool → Argument → Tokens → Type 0
-SpellsArgument full = Made address (Sign mark.Ampersand ⋅ Name) ∣ Made argument.Value (SpellsWhole full)
+abbrev pub SpellsArgument : Dialect → Argument → Tokens → Type 0
+SpellsArgument dialect = Made address (Sign mark.Ampersand ⋅ Name) ∣ Made argument.Value (SpellsWhole dialect)
 
 abbrev pub call_of : Named × (Place × (List Argument × Place)) → Call
 call_of p = record { name = p.0; arguments = p.1.1.0 }
 
 -- NAME "(" [ arg { "," arg } ] ")"
-abbrev pub SpellsCall : Bool → Call → Tokens → Type 0
-SpellsCall full = Made call_of (Name ⋅ Sign mark.OpenParenthesis ⋅ Separated (SpellsArgument full) ⋅ Sign mark.CloseParenthesis)
+abbrev pub SpellsCall : Dialect → Call → Tokens → Type 0
+SpellsCall dialect = Made call_of (Name ⋅ Sign mark.OpenParenthesis ⋅ Separated (SpellsArgument dialect) ⋅ Sign mark.CloseParenthesis)
 
 -- call | expr
-abbrev pub SpellsRightSide : Bool → RightSide → Tokens → Type 0
-SpellsRightSide full = Made right.Call (SpellsCall full) ∣ Made right.Value (SpellsWhole full)
+abbrev pub SpellsRightSide : Dialect → RightSide → Tokens → Type 0
+SpellsRightSide dialect = Made right.Call (SpellsCall dialect) ∣ Made right.Value (SpellsWhole dialect)

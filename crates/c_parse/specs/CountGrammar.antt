@@ -1,7 +1,8 @@
 -- The grammar of the heads of loops (docs/formats/c.md).
-use Rattle.std.specs.Prelude.{◌≡◌, ℕ, List, ◌++◌, ⊤}
+use Rattle.std.specs.Prelude.{◌≡◌, ◌++◌, ⊤}
 use Rattle.hw_text.specs.declared.place.Place.{Place}
 use Rattle.hw_text.specs.Language.{One, ◌⋅◌, Made}
+use Rattle.c_tree.specs.declared.identifier.Identifier.{Identifier}
 use Rattle.c_tree.specs.declared.integer_type.IntegerType.{IntegerType}
 use Rattle.c_tree.specs.declared.named.Named.{Named}
 use Rattle.c_tree.specs.declared.named.SignedLiteral.{SignedLiteral}
@@ -23,7 +24,7 @@ abbrev pub count_end_of : Place × (Place × (SignedLiteral × (Place × (Place 
 count_end_of p = record { place = p.1.0; below = p.1.1.0 }
 
 -- NAME "<" lit ";" NAME "++" ")", each NAME being this one
-abbrev pub SpellsCountEnd : List ℕ → CountEnd → Tokens → Type 0
+abbrev pub SpellsCountEnd : Identifier → CountEnd → Tokens → Type 0
 SpellsCountEnd n =
     Made count_end_of
     (One (again_of n) ⋅ Sign mark.Less ⋅ SpellsSigned ⋅ Sign mark.Semicolon ⋅ One (again_of n) ⋅ Sign mark.Increment ⋅ Sign mark.CloseParenthesis)

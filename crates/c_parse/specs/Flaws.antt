@@ -5,6 +5,8 @@ use Rattle.std.specs.Option.{option_map_or}
 use Rattle.hw_text.specs.declared.place.Place.{Place}
 use Rattle.hw_text.specs.declared.refusal.Refusal.{Refusal}
 use Rattle.hw_text.specs.Reading.{begins}
+use Rattle.c_tree.specs.declared.dialect.Dialect.{Dialect}
+use Rattle.c_tree.specs.Dialects.{is_full}
 use Rattle.c_parse.specs.declared.flaw.Flaw.{Flaw}
 use Rattle.c_parse.specs.declared.flaw.Flaw.TheVariants.{TooDeep, TooLong, EmptyRange}
 use Rattle.c_parse.specs.declared.mark.Mark.TheVariants as mark
@@ -34,10 +36,10 @@ abbrev pub is_too_long : Tokens → ℕ → Bool
 is_too_long ts i = leads_too_far (drop (i - 501) (take (i + 1) ts))
 
 -- what is wrong with the token at this index, in the full grammar or in that of users
-abbrev pub flaw_at : Bool → Tokens → ℕ → Option Flaw
-flaw_at full ts i =
-    if not full && is_too_deep ts i then Some TooDeep
-    else if not full && is_too_long ts i then Some TooLong
+abbrev pub flaw_at : Dialect → Tokens → ℕ → Option Flaw
+flaw_at dialect ts i =
+    if not (is_full dialect) && is_too_deep ts i then Some TooDeep
+    else if not (is_full dialect) && is_too_long ts i then Some TooLong
     else if is_some (empty_range_at ts i) then Some EmptyRange
     else None
 

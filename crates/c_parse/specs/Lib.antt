@@ -1,6 +1,7 @@
 pub mod Blanks
 pub mod CallGrammar
 pub mod CountGrammar
+pub mod DialectTexts
 pub mod ExpressionGrammar
 pub mod Flaws
 pub mod Forms
@@ -20,11 +21,11 @@ pub mod PrintedUnits
 pub mod RangeEnds
 pub mod Ranges
 pub mod Refusals
+pub mod Samples
 pub mod Standing
 pub mod StatementGrammar
 pub mod Tokens
 pub mod TypedefGrammar
 pub mod UnitGrammar
-pub mod UserUnits
 pub mod Values
 pub mod WholeUnits

@@ -1,5 +1,5 @@
 -- Brackets, and how far an expression goes (docs/formats/c.md).
-use Rattle.std.specs.Prelude.{ℕ, ◌-◌, ◌==◌, ◌&&◌, Bool, true, false, count_by, take}
+use Rattle.std.specs.Prelude.{ℕ, ◌-◌, ◌==◌, ◌&&◌, Bool, true, false, List, count_by, take}
 use Rattle.std.specs.List.{enumerate_from, position_or_len}
 use Rattle.hw_text.specs.declared.placed.Placed.{Placed}
 use Rattle.c_parse.specs.declared.keyword.Keyword.TheVariants as keyword
@@ -39,6 +39,10 @@ leads (token.Mark mark.OpenBracket) = true
 leads (token.Mark mark.Comma) = true
 leads (token.Keyword keyword.Return) = true
 leads _ = false
+
+-- how many brackets are open behind these
+abbrev pub brackets_open : List Token → ℕ
+brackets_open ts = count_by opens ts - count_by closes ts
 
 -- how many brackets are open behind these tokens
 abbrev pub open_behind : Tokens → ℕ

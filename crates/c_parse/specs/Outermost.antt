@@ -4,6 +4,7 @@
 use Rattle.std.specs.Prelude.{◌≡◌, ◌<◌, ◌+◌, ℕ, Bool, true, false, List, ◌++◌, length, take, is_some}
 use Rattle.hw_text.specs.declared.place.Place.{Place}
 use Rattle.hw_text.specs.Language.{◌⋅◌, Each}
+use Rattle.c_tree.specs.declared.dialect.Dialect.TheVariants.{User}
 use Rattle.c_tree.specs.declared.expression.RightSide.{RightSide}
 use Rattle.c_tree.specs.declared.statement.Branch.{Branch}
 use Rattle.c_tree.specs.declared.statement.Otherwise.{Otherwise}
@@ -25,13 +26,13 @@ use Rattle.c_parse.specs.Standing.{All, ◌▸◌, ◌◂◌, ◌∥◌}
 
 -- behind a comma
 abbrev pub InLaterArgument : Tokens → Tokens → Tokens → Type 0
-InLaterArgument = Sign mark.Comma ▸ All (SpellsWhole false)
+InLaterArgument = Sign mark.Comma ▸ All (SpellsWhole User)
 
 -- the first argument, or one behind a comma
 abbrev pub InArguments : Tokens → Tokens → Tokens → Type 0
 InArguments =
-    (All (SpellsWhole false) ◂ Each (BehindComma (SpellsArgument false))) ∥
-    (SpellsArgument false ▸ Each (BehindComma (SpellsArgument false)) ▸ InLaterArgument ◂ Each (BehindComma (SpellsArgument false)))
+    (All (SpellsWhole User) ◂ Each (BehindComma (SpellsArgument User))) ∥
+    (SpellsArgument User ▸ Each (BehindComma (SpellsArgument User)) ▸ InLaterArgument ◂ Each (BehindComma (SpellsArgument User)))
 
 -- NAME "(" arguments ")"
 abbrev pub InCall : Tokens → Tokens → Tokens → Type 0
@@ -39,15 +40,15 @@ InCall = Name ▸ Sign mark.OpenParenthesis ▸ InArguments ◂ Sign mark.CloseP
 
 -- call | expr
 abbrev pub InRightSide : Tokens → Tokens → Tokens → Type 0
-InRightSide = InCall ∥ All (SpellsWhole false)
+InRightSide = InCall ∥ All (SpellsWhole User)
 
 -- between brackets
 abbrev pub InIndex : Tokens → Tokens → Tokens → Type 0
-InIndex = Sign mark.OpenBracket ▸ All (SpellsWhole false) ◂ Sign mark.CloseBracket
+InIndex = Sign mark.OpenBracket ▸ All (SpellsWhole User) ◂ Sign mark.CloseBracket
 
 -- in one of the parts of an lvalue
 abbrev pub InParts : Tokens → Tokens → Tokens → Type 0
-InParts = SpellsParts false ▸ InIndex ◂ SpellsParts false
+InParts = SpellsParts User ▸ InIndex ◂ SpellsParts User
 
 -- "=" rhs
 abbrev pub InGiven : Tokens → Tokens → Tokens → Type 0
@@ -60,8 +61,8 @@ InLocal = SpellsType ▸ Name ▸ InGiven ◂ Sign mark.Semicolon
 -- lval "=" rhs ";"
 abbrev pub InAssignment : Tokens → Tokens → Tokens → Type 0
 InAssignment =
-    (SpellsBase false ▸ InParts ◂ Sign mark.Assign ⋅ SpellsRightSide false ⋅ Sign mark.Semicolon) ∥
-    (SpellsLvalue false ▸ InGiven ◂ Sign mark.Semicolon)
+    (SpellsBase User ▸ InParts ◂ Sign mark.Assign ⋅ SpellsRightSide User ⋅ Sign mark.Semicolon) ∥
+    (SpellsLvalue User ▸ InGiven ◂ Sign mark.Semicolon)
 
 -- what has no block
 abbrev pub InPlain : Tokens → Tokens → Tokens → Type 0
@@ -75,15 +76,15 @@ mutual
   -- in a plain one, in a branch of an `if`, in its last block, or in the block of a `for`
   pub data InStatement : Tokens → Tokens → Tokens → Type 0 where
     in_plain : (us es vs : Tokens) → InPlain us es vs → InStatement us es vs
-    in_first_branch : (bs : List Branch) (o : Otherwise) (us es ms ns os vs : Tokens) → vs ≡ ms ++ (ns ++ os) → InBranch us es ms → SpellsElseIfs false bs ns → SpellsOtherwise false o os → InStatement us es vs
-    in_later_branch : (b : Branch) (o : Otherwise) (ws ms us es ns os vs : Tokens) → us ≡ ws ++ ms → vs ≡ ns ++ os → SpellsBranch false b ws → InElseIfs ms es ns → SpellsOtherwise false o os → InStatement us es vs
-    in_else : (b : Branch) (bs : List Branch) (p : Place) (ws ns os ms us es vs : Tokens) → us ≡ ws ++ (ns ++ (os ++ ms)) → SpellsBranch false b ws → SpellsElseIfs false bs ns → Word keyword.Else p os → InBlock ms es vs → InStatement us es vs
+    in_first_branch : (bs : List Branch) (o : Otherwise) (us es ms ns os vs : Tokens) → vs ≡ ms ++ (ns ++ os) → InBranch us es ms → SpellsElseIfs User bs ns → SpellsOtherwise User o os → InStatement us es vs
+    in_later_branch : (b : Branch) (o : Otherwise) (ws ms us es ns os vs : Tokens) → us ≡ ws ++ ms → vs ≡ ns ++ os → SpellsBranch User b ws → InElseIfs ms es ns → SpellsOtherwise User o os → InStatement us es vs
+    in_else : (b : Branch) (bs : List Branch) (p : Place) (ws ns os ms us es vs : Tokens) → us ≡ ws ++ (ns ++ (os ++ ms)) → SpellsBranch User b ws → SpellsElseIfs User bs ns → Word keyword.Else p os → InBlock ms es vs → InStatement us es vs
     in_loop : (p q : Place) (h : CountStart × CountEnd) (fs os hs ms us es vs : Tokens) → us ≡ fs ++ (os ++ (hs ++ ms)) → Word keyword.For p fs → Sign mark.OpenParenthesis q os → SpellsCount h hs → InBlock ms es vs → InStatement us es vs
 
   -- in the first, or in a later one
   pub data InStatements : Tokens → Tokens → Tokens → Type 0 where
-    in_first : (ss : List Statement) (us es ms ns vs : Tokens) → vs ≡ ms ++ ns → InStatement us es ms → SpellsStatements false ss ns → InStatements us es vs
-    in_later : (s : Statement) (ws ms us es vs : Tokens) → us ≡ ws ++ ms → SpellsStatement false s ws → InStatements ms es vs → InStatements us es vs
+    in_first : (ss : List Statement) (us es ms ns vs : Tokens) → vs ≡ ms ++ ns → InStatement us es ms → SpellsStatements User ss ns → InStatements us es vs
+    in_later : (s : Statement) (ws ms us es vs : Tokens) → us ≡ ws ++ ms → SpellsStatement User s ws → InStatements ms es vs → InStatements us es vs
 
   -- "{" statements "}"
   pub data InBlock : Tokens → Tokens → Tokens → Type 0 where
@@ -91,13 +92,13 @@ mutual
 
   -- "if" "(" rhs ")" block
   pub data InBranch : Tokens → Tokens → Tokens → Type 0 where
-    in_condition : (p : Place) (body : List Statement) (is ms us es ns bs vs : Tokens) → us ≡ is ++ ms → vs ≡ ns ++ bs → Word keyword.If p is → InCondition ms es ns → SpellsBlock false body bs → InBranch us es vs
-    in_body : (p : Place) (c : RightSide) (is cs ms us es vs : Tokens) → us ≡ is ++ (cs ++ ms) → Word keyword.If p is → SpellsCondition false c cs → InBlock ms es vs → InBranch us es vs
+    in_condition : (p : Place) (body : List Statement) (is ms us es ns bs vs : Tokens) → us ≡ is ++ ms → vs ≡ ns ++ bs → Word keyword.If p is → InCondition ms es ns → SpellsBlock User body bs → InBranch us es vs
+    in_body : (p : Place) (c : RightSide) (is cs ms us es vs : Tokens) → us ≡ is ++ (cs ++ ms) → Word keyword.If p is → SpellsCondition User c cs → InBlock ms es vs → InBranch us es vs
 
   -- { "else" branch }
   pub data InElseIfs : Tokens → Tokens → Tokens → Type 0 where
-    in_first_link : (p : Place) (bs : List Branch) (os ms us es ns ws vs : Tokens) → us ≡ os ++ ms → vs ≡ ns ++ ws → Word keyword.Else p os → InBranch ms es ns → SpellsElseIfs false bs ws → InElseIfs us es vs
-    in_later_link : (p : Place) (b : Branch) (os ws ms us es vs : Tokens) → us ≡ os ++ (ws ++ ms) → Word keyword.Else p os → SpellsBranch false b ws → InElseIfs ms es vs → InElseIfs us es vs
+    in_first_link : (p : Place) (bs : List Branch) (os ms us es ns ws vs : Tokens) → us ≡ os ++ ms → vs ≡ ns ++ ws → Word keyword.Else p os → InBranch ms es ns → SpellsElseIfs User bs ws → InElseIfs us es vs
+    in_later_link : (p : Place) (b : Branch) (os ws ms us es vs : Tokens) → us ≡ os ++ (ws ++ ms) → Word keyword.Else p os → SpellsBranch User b ws → InElseIfs ms es vs → InElseIfs us es vs
 
 -- "return" rhs
 abbrev pub InReturned : Tokens → Tokens → Tokens → Type 0
@@ -106,13 +107,13 @@ InReturned = Word keyword.Return ▸ InRightSide
 -- { stmt } "return" rhs ";" "}", or { stmt } "}" where nothing is returned
 abbrev pub InBody : Bool → Tokens → Tokens → Tokens → Type 0
 InBody true =
-    (InStatements ◂ Word keyword.Return ⋅ SpellsRightSide false ⋅ Sign mark.Semicolon ⋅ Sign mark.CloseBrace) ∥
-    (SpellsStatements false ▸ InReturned ◂ Sign mark.Semicolon ⋅ Sign mark.CloseBrace)
+    (InStatements ◂ Word keyword.Return ⋅ SpellsRightSide User ⋅ Sign mark.Semicolon ⋅ Sign mark.CloseBrace) ∥
+    (SpellsStatements User ▸ InReturned ◂ Sign mark.Semicolon ⋅ Sign mark.CloseBrace)
 InBody false = InStatements ◂ Sign mark.CloseBrace
 
 -- "(" parameters ")" "{" body
 abbrev pub InFunction : Bool → Tokens → Tokens → Tokens → Type 0
-InFunction returns = Sign mark.OpenParenthesis ▸ SpellsParameters false ▸ Sign mark.CloseParenthesis ▸ Sign mark.OpenBrace ▸ InBody returns
+InFunction returns = Sign mark.OpenParenthesis ▸ SpellsParameters User ▸ Sign mark.CloseParenthesis ▸ Sign mark.OpenBrace ▸ InBody returns
 
 -- a heading, and the rest of its function
 abbrev pub InItem : Tokens → Tokens → Tokens → Type 0
@@ -120,11 +121,11 @@ InItem us es vs = (h : Heading) × (ws ms : Tokens) × (us ≡ ws ++ ms) × Spel
 
 -- { item }
 abbrev pub InUnit : Tokens → Tokens → Tokens → Type 0
-InUnit = Each (SpellsItem false) ▸ InItem ◂ Each (SpellsItem false)
+InUnit = Each (SpellsItem User) ▸ InItem ◂ Each (SpellsItem User)
 
 -- in a text of the grammar of users that ends there, these tokens are those of an outermost expression
 abbrev pub IsOutermost : Place → Tokens → Tokens → Tokens → Type 0
-IsOutermost end us es vs = (u : CUnit) × SpellsUnit false end u (us ++ (es ++ vs)) × InUnit us es vs
+IsOutermost end us es vs = (u : CUnit) × SpellsUnit User end u (us ++ (es ++ vs)) × InUnit us es vs
 
 -- some text of the grammar of users begins with these tokens up to this one, which is there the 501st of an outermost expression
 abbrev pub IsTooLongAt : Place → Tokens → ℕ → Type 0

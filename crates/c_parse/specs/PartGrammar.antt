@@ -2,19 +2,19 @@
 use Rattle.std.specs.Prelude.{Bool, ◌∷◌, Option, Some, None}
 use Rattle.hw_text.specs.declared.place.Place.{Place}
 use Rattle.hw_text.specs.Language.{One, ◌⋅◌, Made, ◌∣◌}
+use Rattle.c_tree.specs.declared.dialect.Dialect.{Dialect}
 use Rattle.c_tree.specs.declared.integer_type.IntegerType.{IntegerType}
 use Rattle.c_tree.specs.declared.named.Named.{Named}
 use Rattle.c_tree.specs.declared.named.Literal.{Literal}
 use Rattle.c_tree.specs.declared.expression.Base.{Base}
 use Rattle.c_tree.specs.declared.expression.Base.TheVariants as base
-use Rattle.c_tree.specs.declared.expression.Lvalue.{Lvalue}
 use Rattle.c_tree.specs.declared.expression.Selector.{Selector}
 use Rattle.c_tree.specs.declared.expression.Selector.TheVariants as selector
 use Rattle.c_tree.specs.declared.expression.Expression.{Expression}
-use Rattle.c_tree.specs.declared.expression.Expression.TheVariants.{Number, Truth, Value}
+use Rattle.c_tree.specs.declared.expression.Expression.TheVariants.{Number, Truth}
 use Rattle.c_parse.specs.declared.mark.Mark.TheVariants as mark
 use Rattle.c_parse.specs.Values.{Tokens, name_token, literal_of, integer_of, truth_of}
-use Rattle.c_parse.specs.ExpressionGrammar.{Sign, Name, InFull, member, start_of_base, SpellsWhole}
+use Rattle.c_parse.specs.ExpressionGrammar.{Sign, Name, InFull, member, SpellsWhole}
 
 -- the tokens from a name on that a reader may have passed
 abbrev pub from_name : Option Named → Tokens → Tokens
@@ -33,13 +33,9 @@ truth_at p = Truth p.0 p.1
 abbrev pub SpellsTruth : Expression → Tokens → Type 0
 SpellsTruth = Made truth_at (One truth_of)
 
--- what is read from an lvalue
-abbrev pub value_of : Lvalue → Expression
-value_of l = Value (start_of_base l.base) l
-
 -- NAME, or in full NAME "->" NAME
-abbrev pub SpellsNamedBase : Bool → Base → Tokens → Type 0
-SpellsNamedBase full = Made base.Variable Name ∣ InFull full (Made member (Name ⋅ Sign mark.Arrow ⋅ Name))
+abbrev pub SpellsNamedBase : Dialect → Base → Tokens → Type 0
+SpellsNamedBase dialect = Made base.Variable Name ∣ InFull dialect (Made member (Name ⋅ Sign mark.Arrow ⋅ Name))
 
 -- what stands behind the `(` of a pointer: "*" NAME ")"
 abbrev pub SpellsPointed : Named → Tokens → Type 0
@@ -60,6 +56,6 @@ abbrev pub index_part : Place × (Expression × Place) → Selector
 index_part p = selector.Index p.1.0
 
 -- "." NAME | "[" expr "]"
-abbrev pub SpellsPart : Bool → Selector → Tokens → Type 0
-SpellsPart full =
-    Made member_part (Sign mark.Dot ⋅ Name) ∣ Made index_part (Sign mark.OpenBracket ⋅ SpellsWhole full ⋅ Sign mark.CloseBracket)
+abbrev pub SpellsPart : Dialect → Selector → Tokens → Type 0
+SpellsPart dialect =
+    Made member_part (Sign mark.Dot ⋅ Name) ∣ Made index_part (Sign mark.OpenBracket ⋅ SpellsWhole dialect ⋅ Sign mark.CloseBracket)

@@ -1,5 +1,5 @@
 -- The canonical tokens of statements, one case for each production of the grammar (docs/formats/c.md).
-use Rattle.std.specs.Prelude.{if◌then◌else◌, List, [], ◌∷◌, ◌++◌, codes, Option, Some, None}
+use Rattle.std.specs.Prelude.{if◌then◌else◌, List, [], ◌∷◌, ◌++◌, Option, Some, None}
 use Rattle.std.specs.List.{flat_map}
 use Rattle.c_tree.specs.declared.integer_type.IntegerType.{IntegerType}
 use Rattle.c_tree.specs.declared.named.Named.{Named}
@@ -15,6 +15,7 @@ use Rattle.c_tree.specs.declared.statement.Statement.{Statement}
 use Rattle.c_tree.specs.declared.statement.Otherwise.TheOpen.{Statement-F, Branch-F, Otherwise-F}
 use Rattle.c_tree.specs.declared.statement.Otherwise.TheOpen as s
 use Rattle.c_tree.specs.declared.statement.Otherwise.TheFolds.{fold-Statement, fold-Branch, fold-Otherwise}
+use Rattle.c_tree.specs.Spellings.{zero}
 use Rattle.c_parse.specs.declared.keyword.Keyword.TheVariants as keyword
 use Rattle.c_parse.specs.declared.mark.Mark.TheVariants as mark
 use Rattle.c_parse.specs.declared.token.Token.{Token}
@@ -38,7 +39,7 @@ length_tokens (Some l) = token.Mark mark.OpenBracket ∷ token.Literal l.numeral
 
 -- "=" "{" "0" "}"
 abbrev pub zero_tokens : List Token
-zero_tokens = token.Mark mark.Assign ∷ token.Mark mark.OpenBrace ∷ token.Literal (codes "0") ∷ token.Mark mark.CloseBrace ∷ []
+zero_tokens = token.Mark mark.Assign ∷ token.Mark mark.OpenBrace ∷ token.Literal zero ∷ token.Mark mark.CloseBrace ∷ []
 
 -- "[" INT "]" "=" "{" "0" "}" | "=" "{" "0" "}" | "=" rhs
 abbrev pub local_tokens : LocalValue → List Token

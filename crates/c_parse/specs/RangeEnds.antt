@@ -3,6 +3,7 @@ use Rattle.std.specs.Prelude.{ℕ, ◌+◌, int_le, nat_lt, if◌then◌else◌,
 use Rattle.std.specs.Option.{option_map}
 use Rattle.hw_text.specs.declared.place.Place.{Place}
 use Rattle.hw_text.specs.declared.placed.Placed.{Placed}
+use Rattle.c_tree.specs.Literals.{signed_value}
 use Rattle.c_tree.specs.declared.named.Literal.{Literal}
 use Rattle.c_tree.specs.declared.named.SignedLiteral.{SignedLiteral}
 use Rattle.c_parse.specs.declared.keyword.Keyword.TheVariants as keyword
@@ -11,7 +12,6 @@ use Rattle.c_parse.specs.declared.bounds.Bound.{Bound}
 use Rattle.c_parse.specs.declared.token.Token.{Token}
 use Rattle.c_parse.specs.Values.{Tokens, mark_of, keyword_of, name_of, literal_of, integer_of}
 use Rattle.c_parse.specs.CallGrammar.{plain_literal, negative_literal}
-use Rattle.c_parse.specs.Ranges.{signed_value}
 
 infixl 20 ◌>>=◌
 -- a step, where those before it gave something

@@ -1,36 +1,16 @@
 -- The ranges of loops over numbers, and which of them are empty (docs/formats/c.md).
-use Rattle.std.specs.Prelude.{◌≡◌, ℕ, ◌+◌, ◌-◌, ◌%◌, ℤ, pos, neg_ℤ, ◌≤ℤ◌, Bool, true, false, ◌++◌, length, Option, Some}
+use Rattle.std.specs.Prelude.{◌≡◌, ℕ, ◌+◌, ◌≤ℤ◌, ◌++◌, length}
 use Rattle.hw_text.specs.declared.place.Place.{Place}
 use Rattle.hw_text.specs.Language.{One, ◌⋅◌, Made}
+use Rattle.c_tree.specs.Literals.{signed_value}
 use Rattle.c_tree.specs.declared.integer_type.IntegerType.{IntegerType}
-use Rattle.c_tree.specs.declared.integer_type.IntegerType.TheVariants.{U32, U64}
 use Rattle.c_tree.specs.declared.named.Named.{Named}
 use Rattle.c_tree.specs.declared.named.SignedLiteral.{SignedLiteral}
-use Rattle.c_tree.specs.Types.{largest}
-use Rattle.c_tree.specs.Numerals.{numeral_value, numeral_type}
 use Rattle.c_parse.specs.declared.keyword.Keyword.TheVariants as keyword
 use Rattle.c_parse.specs.declared.mark.Mark.TheVariants as mark
 use Rattle.c_parse.specs.Values.{Tokens, integer_of}
 use Rattle.c_parse.specs.ExpressionGrammar.{Sign, Name}
 use Rattle.c_parse.specs.CallGrammar.{Word, SpellsSigned}
-
--- so many below zero, reduced by one more than the largest number
-abbrev pub wrapped : ℕ → ℕ → ℕ
-wrapped most n = (most + 1 - n) % (most + 1)
-
--- the value of a literal behind a minus, in the literal's own type (ISO/IEC 9899:2011, 6.5.3.3 and 6.3.1.3)
-abbrev pub negated : Option IntegerType → ℕ → ℤ
-negated (Some U32) n = pos (wrapped (largest U32) n)
-negated (Some U64) n = pos (wrapped (largest U64) n)
-negated class n = neg_ℤ (pos n)
-
-abbrev pub numeral_under : Bool → Option IntegerType → ℕ → ℤ
-numeral_under true class n = negated class n
-numeral_under false class n = pos n
-
--- the value of a literal, maybe behind a minus
-abbrev pub signed_value : SignedLiteral → ℤ
-signed_value l = numeral_under l.negative (numeral_type l.literal.numeral) (numeral_value l.literal.numeral)
 
 -- the literals of a range: with which number it begins, and below which it ends
 abbrev pub Bounds : Type 0

@@ -1,10 +1,12 @@
 -- Why a text is no unit: what is told where no unit goes on, and of more than is allowed (docs/formats/c.md).
-use Rattle.std.specs.Prelude.{ℕ, ◌-◌, ◌==◌, pos, Bool, false, ◌&&◌, if◌then◌else◌, List, [], ◌∷◌, slice_get, codes, Option, Some, None}
+use Rattle.std.specs.Prelude.{ℕ, ◌-◌, ◌==◌, pos, ◌&&◌, if◌then◌else◌, List, [], ◌∷◌, slice_get, codes, Option, Some, None}
 use Rattle.hw_text.specs.declared.code.Code.{Code}
 use Rattle.hw_text.specs.declared.code.Code.TheVariants as code
 use Rattle.hw_text.specs.declared.place.Place.{Place}
 use Rattle.hw_text.specs.declared.placed.Placed.{Placed}
 use Rattle.hw_text.specs.declared.refusal.Refusal.{Refusal}
+use Rattle.c_tree.specs.declared.dialect.Dialect.{Dialect}
+use Rattle.c_tree.specs.declared.dialect.Dialect.TheVariants.{User}
 use Rattle.c_parse.specs.declared.keyword.Keyword.TheVariants as keyword
 use Rattle.c_parse.specs.declared.token.Token.{Token}
 use Rattle.c_parse.specs.declared.token.Token.TheVariants as token
@@ -55,10 +57,10 @@ link_of (Some t) (Some u) = if is_word keyword.Else t && is_word keyword.If u th
 link_of _ _ = None
 
 -- in the grammar of users an `else` goes on with `if` unless that is one link too many, which is told at the `else`
-abbrev pub unexpected_behind : Bool → Tokens → Place → List ℕ → ℕ → Option Place → Refusal
-unexpected_behind false ts end left i (Some at) = limit (codes "nesting") at 65 64
+abbrev pub unexpected_behind : Dialect → Tokens → Place → List ℕ → ℕ → Option Place → Refusal
+unexpected_behind User ts end left i (Some at) = limit (codes "nesting") at 65 64
 unexpected_behind _ ts end left i _ = unexpected_there end left (slice_get ts i)
 
 -- what is told where no unit goes on behind so many of the tokens
-abbrev pub unexpected_at : Bool → Tokens → Place → List ℕ → ℕ → Refusal
-unexpected_at full ts end left i = unexpected_behind full ts end left i (link_of (token_before ts i) (slice_get ts i))
+abbrev pub unexpected_at : Dialect → Tokens → Place → List ℕ → ℕ → Refusal
+unexpected_at dialect ts end left i = unexpected_behind dialect ts end left i (link_of (token_before ts i) (slice_get ts i))

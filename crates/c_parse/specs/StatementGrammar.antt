@@ -4,6 +4,8 @@ use Rattle.hw_text.specs.declared.place.Place.{Place}
 use Rattle.hw_text.specs.declared.placed.Placed.{Placed}
 use Rattle.hw_text.specs.Language.{◌⋅◌, Made}
 use Rattle.hw_text.specs.Reading.{BeginsWithout}
+use Rattle.c_tree.specs.declared.dialect.Dialect.{Dialect}
+use Rattle.c_tree.specs.Dialects.{is_full}
 use Rattle.c_tree.specs.declared.expression.RightSide.{RightSide}
 use Rattle.c_tree.specs.declared.statement.Branch.{Branch}
 use Rattle.c_tree.specs.declared.statement.Otherwise.{Otherwise}
@@ -25,57 +27,57 @@ abbrev pub count_of : (CountStart × CountEnd) × List Statement → Statement
 count_of p = Count p.0.0.class p.0.0.name p.0.0.from p.0.1.place p.0.1.below p.1
 
 -- in the grammar of users an `if` has at most 64 `else if`s
-abbrev pub LinksFit : Bool → ℕ → Type 0
-LinksFit full n = IsTrue full ⊎ (n ≤ 64)
+abbrev pub LinksFit : Dialect → ℕ → Type 0
+LinksFit dialect n = IsTrue (is_full dialect) ⊎ (n ≤ 64)
 
 mutual
-  pub data SpellsStatement : Bool → Statement → Tokens → Type 0 where
-    plain : (full : Bool) (s : Statement) (ts : Tokens) → SpellsPlain full s ts → SpellsStatement full s ts
-    choice : (full : Bool) (b : Branch) (bs : List Branch) (o : Otherwise) (us vs ws : Tokens) (s : Statement) (ts : Tokens) → s ≡ If b bs o → LinksFit full (length bs) → ts ≡ us ++ (vs ++ ws) → SpellsBranch full b us → SpellsElseIfs full bs vs → SpellsOtherwise full o ws → SpellsStatement full s ts
-    loop : (full : Bool) (p q : Place) (fs os us : Tokens) (s : Statement) (ts : Tokens) → ts ≡ fs ++ (os ++ us) → Word keyword.For p fs → Sign mark.OpenParenthesis q os → SpellsLoop full s us → SpellsStatement full s ts
+  pub data SpellsStatement : Dialect → Statement → Tokens → Type 0 where
+    plain : (dialect : Dialect) (s : Statement) (ts : Tokens) → SpellsPlain dialect s ts → SpellsStatement dialect s ts
+    choice : (dialect : Dialect) (b : Branch) (bs : List Branch) (o : Otherwise) (us vs ws : Tokens) (s : Statement) (ts : Tokens) → s ≡ If b bs o → LinksFit dialect (length bs) → ts ≡ us ++ (vs ++ ws) → SpellsBranch dialect b us → SpellsElseIfs dialect bs vs → SpellsOtherwise dialect o ws → SpellsStatement dialect s ts
+    loop : (dialect : Dialect) (p q : Place) (fs os us : Tokens) (s : Statement) (ts : Tokens) → ts ≡ fs ++ (os ++ us) → Word keyword.For p fs → Sign mark.OpenParenthesis q os → SpellsLoop dialect s us → SpellsStatement dialect s ts
 
   -- behind "for" "(": the range and a block, or in full ";" ";" ")" block
-  pub data SpellsLoop : Bool → Statement → Tokens → Type 0 where
-    count : (full : Bool) (h : CountStart × CountEnd) (body : List Statement) (us vs : Tokens) (s : Statement) (ts : Tokens) → s ≡ count_of (h, body) → ts ≡ us ++ vs → SpellsCount h us → SpellsBlock full body vs → SpellsLoop full s ts
-    forever : (full : Bool) (u : ⊤) (body : List Statement) (us vs : Tokens) (s : Statement) (ts : Tokens) → IsTrue full → s ≡ Forever body → ts ≡ us ++ vs → SpellsForeverHead u us → SpellsBlock full body vs → SpellsLoop full s ts
+  pub data SpellsLoop : Dialect → Statement → Tokens → Type 0 where
+    count : (dialect : Dialect) (h : CountStart × CountEnd) (body : List Statement) (us vs : Tokens) (s : Statement) (ts : Tokens) → s ≡ count_of (h, body) → ts ≡ us ++ vs → SpellsCount h us → SpellsBlock dialect body vs → SpellsLoop dialect s ts
+    forever : (dialect : Dialect) (u : ⊤) (body : List Statement) (us vs : Tokens) (s : Statement) (ts : Tokens) → IsTrue (is_full dialect) → s ≡ Forever body → ts ≡ us ++ vs → SpellsForeverHead u us → SpellsBlock dialect body vs → SpellsLoop dialect s ts
 
   -- { stmt }
-  pub data SpellsStatements : Bool → List Statement → Tokens → Type 0 where
-    no_statement : (full : Bool) (all : List Statement) (ts : Tokens) → all ≡ [] → ts ≡ [] → SpellsStatements full all ts
-    a_statement : (full : Bool) (s : Statement) (ss : List Statement) (us vs : Tokens) (all : List Statement) (ts : Tokens) → all ≡ s ∷ ss → ts ≡ us ++ vs → SpellsStatement full s us → SpellsStatements full ss vs → SpellsStatements full all ts
+  pub data SpellsStatements : Dialect → List Statement → Tokens → Type 0 where
+    no_statement : (dialect : Dialect) (all : List Statement) (ts : Tokens) → all ≡ [] → ts ≡ [] → SpellsStatements dialect all ts
+    a_statement : (dialect : Dialect) (s : Statement) (ss : List Statement) (us vs : Tokens) (all : List Statement) (ts : Tokens) → all ≡ s ∷ ss → ts ≡ us ++ vs → SpellsStatement dialect s us → SpellsStatements dialect ss vs → SpellsStatements dialect all ts
 
   -- "{" { stmt } "}"
-  pub data SpellsBlock : Bool → List Statement → Tokens → Type 0 where
-    block : (full : Bool) (p q : Place) (ss : List Statement) (os us cs ts : Tokens) → ts ≡ os ++ (us ++ cs) → Sign mark.OpenBrace p os → SpellsStatements full ss us → Sign mark.CloseBrace q cs → SpellsBlock full ss ts
+  pub data SpellsBlock : Dialect → List Statement → Tokens → Type 0 where
+    block : (dialect : Dialect) (p q : Place) (ss : List Statement) (os us cs ts : Tokens) → ts ≡ os ++ (us ++ cs) → Sign mark.OpenBrace p os → SpellsStatements dialect ss us → Sign mark.CloseBrace q cs → SpellsBlock dialect ss ts
 
   -- "if" "(" rhs ")" block
-  pub data SpellsBranch : Bool → Branch → Tokens → Type 0 where
-    branch : (full : Bool) (p : Place) (c : RightSide) (body : List Statement) (is us vs : Tokens) (b : Branch) (ts : Tokens) → b ≡ record { condition = c; body = body } → ts ≡ is ++ (us ++ vs) → Word keyword.If p is → SpellsCondition full c us → SpellsBlock full body vs → SpellsBranch full b ts
+  pub data SpellsBranch : Dialect → Branch → Tokens → Type 0 where
+    branch : (dialect : Dialect) (p : Place) (c : RightSide) (body : List Statement) (is us vs : Tokens) (b : Branch) (ts : Tokens) → b ≡ record { condition = c; body = body } → ts ≡ is ++ (us ++ vs) → Word keyword.If p is → SpellsCondition dialect c us → SpellsBlock dialect body vs → SpellsBranch dialect b ts
 
   -- { "else" "if" "(" rhs ")" block }
-  pub data SpellsElseIfs : Bool → List Branch → Tokens → Type 0 where
-    no_branch : (full : Bool) (all : List Branch) (ts : Tokens) → all ≡ [] → ts ≡ [] → SpellsElseIfs full all ts
-    else_if : (full : Bool) (p : Place) (b : Branch) (bs : List Branch) (es us vs : Tokens) (all : List Branch) (ts : Tokens) → all ≡ b ∷ bs → ts ≡ es ++ (us ++ vs) → Word keyword.Else p es → SpellsBranch full b us → SpellsElseIfs full bs vs → SpellsElseIfs full all ts
+  pub data SpellsElseIfs : Dialect → List Branch → Tokens → Type 0 where
+    no_branch : (dialect : Dialect) (all : List Branch) (ts : Tokens) → all ≡ [] → ts ≡ [] → SpellsElseIfs dialect all ts
+    else_if : (dialect : Dialect) (p : Place) (b : Branch) (bs : List Branch) (es us vs : Tokens) (all : List Branch) (ts : Tokens) → all ≡ b ∷ bs → ts ≡ es ++ (us ++ vs) → Word keyword.Else p es → SpellsBranch dialect b us → SpellsElseIfs dialect bs vs → SpellsElseIfs dialect all ts
 
   -- [ "else" block ]
-  pub data SpellsOtherwise : Bool → Otherwise → Tokens → Type 0 where
-    no_else : (full : Bool) (o : Otherwise) (ts : Tokens) → o ≡ otherwise.Nothing → ts ≡ [] → SpellsOtherwise full o ts
-    an_else : (full : Bool) (p : Place) (body : List Statement) (es us : Tokens) (o : Otherwise) (ts : Tokens) → o ≡ otherwise.Block body → ts ≡ es ++ us → Word keyword.Else p es → SpellsBlock full body us → SpellsOtherwise full o ts
+  pub data SpellsOtherwise : Dialect → Otherwise → Tokens → Type 0 where
+    no_else : (dialect : Dialect) (o : Otherwise) (ts : Tokens) → o ≡ otherwise.Nothing → ts ≡ [] → SpellsOtherwise dialect o ts
+    an_else : (dialect : Dialect) (p : Place) (body : List Statement) (es us : Tokens) (o : Otherwise) (ts : Tokens) → o ≡ otherwise.Block body → ts ≡ es ++ us → Word keyword.Else p es → SpellsBlock dialect body us → SpellsOtherwise dialect o ts
 
 -- what stands behind the first condition and its block, and behind so many `else if`s
-abbrev pub SpellsElse : Bool → ℕ → List Branch × Otherwise → Tokens → Type 0
-SpellsElse full n p ts = LinksFit full (n + length p.0) × (SpellsElseIfs full ⋅ SpellsOtherwise full) p ts
+abbrev pub SpellsElse : Dialect → ℕ → List Branch × Otherwise → Tokens → Type 0
+SpellsElse dialect n p ts = LinksFit dialect (n + length p.0) × (SpellsElseIfs dialect ⋅ SpellsOtherwise dialect) p ts
 
 abbrev pub choice_of : Branch × (List Branch × Otherwise) → Statement
 choice_of p = If p.0 p.1.0 p.1.1
 
 -- "if" "(" rhs ")" block { "else" "if" "(" rhs ")" block } [ "else" block ]
-abbrev pub SpellsChoice : Bool → Statement → Tokens → Type 0
-SpellsChoice full = Made choice_of (SpellsBranch full ⋅ SpellsElse full 0)
+abbrev pub SpellsChoice : Dialect → Statement → Tokens → Type 0
+SpellsChoice dialect = Made choice_of (SpellsBranch dialect ⋅ SpellsElse dialect 0)
 
 -- "for" "(" and what stands behind
-abbrev pub SpellsFor : Bool → Statement → Tokens → Type 0
-SpellsFor full = Made (λ p. p.1.1) (Word keyword.For ⋅ Sign mark.OpenParenthesis ⋅ SpellsLoop full)
+abbrev pub SpellsFor : Dialect → Statement → Tokens → Type 0
+SpellsFor dialect = Made (λ p. p.1.1) (Word keyword.For ⋅ Sign mark.OpenParenthesis ⋅ SpellsLoop dialect)
 
 -- no `else` stands behind
 abbrev pub NoElse : Tokens → Type 0

@@ -7,8 +7,10 @@ use Rattle.hw_text.specs.Places.{place_of_rest}
 use Rattle.hw_text.specs.Tokens.{AreTokensOf}
 use Rattle.hw_text.specs.declared.place.Place.{Place}
 use Rattle.hw_text.specs.declared.placed.Placed.{Placed}
-use Rattle.c_tree.specs.Words.{begins_name, continues_name, is_identifier}
-use Rattle.c_tree.specs.Numerals.{past_numeral, is_numeral}
+use Rattle.c_tree.specs.Words.{begins_name, continues_name}
+use Rattle.c_tree.specs.Numerals.{past_numeral}
+use Rattle.c_tree.specs.Spellings.{identifier_of, numeral_of}
+use Rattle.c_tree.specs.declared.identifier.Identifier.{Identifier}
 use Rattle.c_parse.specs.declared.token.Token.{Token}
 use Rattle.c_parse.specs.declared.token.Token.TheVariants as token
 use Rattle.c_parse.specs.declared.keyword.Keyword.{Keyword}
@@ -21,10 +23,15 @@ abbrev pub name_length : List ℕ → ℕ
 name_length [] = 0
 name_length (b ∷ bs) = if continues_name b then name_length bs + 1 else 0
 
+-- a name, or else a word of C that the grammar does not use
+abbrev pub name_or_reserved : Option Identifier → List ℕ → Token
+name_or_reserved (Some name) bs = token.Name name
+name_or_reserved None bs = token.Reserved bs
+
 -- a word of the grammar, or else a name, or else another word of C
 abbrev pub word_or_name : Option Keyword → List ℕ → Token
 word_or_name (Some word) bs = token.Keyword word
-word_or_name None bs = if is_identifier bs then token.Name bs else token.Reserved bs
+word_or_name None bs = name_or_reserved (identifier_of bs) bs
 
 unfoldable pub word_token : List ℕ → Token × List ℕ
 word_token bs =
@@ -35,7 +42,7 @@ word_token bs =
 unfoldable pub literal_token : List ℕ → Option (Token × List ℕ)
 literal_token bs =
     let spelling = take (length bs - length (past_numeral bs)) bs in
-    if is_numeral spelling then Some (token.Literal spelling, past_numeral bs) else None
+    option_map (λ literal. (token.Literal literal, past_numeral bs)) (numeral_of spelling)
 
 -- the beginning of a comment, which stands here where it is not closed
 abbrev pub begins_comment : List ℕ → Bool

@@ -2,6 +2,7 @@
 use Rattle.std.specs.Prelude.{◌≡◌, Bool, true, false, List, [], ◌∷◌, ◌++◌, Option, Some, None, is_some}
 use Rattle.hw_text.specs.declared.place.Place.{Place}
 use Rattle.hw_text.specs.Language.{One, Nothing, ◌⋅◌, Maybe, Each, Made, ◌∣◌}
+use Rattle.c_tree.specs.declared.dialect.Dialect.{Dialect}
 use Rattle.c_tree.specs.declared.named.Named.{Named}
 use Rattle.c_tree.specs.declared.named.Literal.{Literal}
 use Rattle.c_tree.specs.declared.type_name.TypeName.{TypeName}
@@ -59,17 +60,17 @@ abbrev pub pointer_parameter_of : TypeName × (Place × Named) → Parameter
 pointer_parameter_of p = record { class = p.0; is_pointer = true; name = p.1.1 }
 
 -- ty NAME, or in full ty "*" NAME
-abbrev pub SpellsParameter : Bool → Parameter → Tokens → Type 0
-SpellsParameter full =
-    Made parameter_of (SpellsType ⋅ Name) ∣ InFull full (Made pointer_parameter_of (SpellsType ⋅ Sign mark.Star ⋅ Name))
+abbrev pub SpellsParameter : Dialect → Parameter → Tokens → Type 0
+SpellsParameter dialect =
+    Made parameter_of (SpellsType ⋅ Name) ∣ InFull dialect (Made pointer_parameter_of (SpellsType ⋅ Sign mark.Star ⋅ Name))
 
 abbrev pub parameters_of : Parameter × List Parameter → List Parameter
 parameters_of p = p.0 ∷ p.1
 
 -- "void" | parameter { "," parameter }
-abbrev pub SpellsParameters : Bool → List Parameter → Tokens → Type 0
-SpellsParameters full =
-    Made (λ p. []) (Word keyword.Void) ∣ Made parameters_of (SpellsParameter full ⋅ Each (BehindComma (SpellsParameter full)))
+abbrev pub SpellsParameters : Dialect → List Parameter → Tokens → Type 0
+SpellsParameters dialect =
+    Made (λ p. []) (Word keyword.Void) ∣ Made parameters_of (SpellsParameter dialect ⋅ Each (BehindComma (SpellsParameter dialect)))
 
 -- "void" | ty
 abbrev pub SpellsResult : Option TypeName → Tokens → Type 0
@@ -96,15 +97,15 @@ abbrev pub Body : Type 0
 Body = List Statement × Option RightSide
 
 -- { stmt } "return" rhs ";" "}", or { stmt } "}" where nothing is returned
-abbrev pub SpellsBody : Bool → Bool → Body → Tokens → Type 0
-SpellsBody full true =
-    Made (λ p. (p.0, Some p.1.1.0)) (SpellsStatements full ⋅ Word keyword.Return ⋅ SpellsRightSide full ⋅ Sign mark.Semicolon ⋅ Sign mark.CloseBrace)
-SpellsBody full false = Made (λ p. (p.0, None)) (SpellsStatements full ⋅ Sign mark.CloseBrace)
+abbrev pub SpellsBody : Dialect → Bool → Body → Tokens → Type 0
+SpellsBody dialect true =
+    Made (λ p. (p.0, Some p.1.1.0)) (SpellsStatements dialect ⋅ Word keyword.Return ⋅ SpellsRightSide dialect ⋅ Sign mark.Semicolon ⋅ Sign mark.CloseBrace)
+SpellsBody dialect false = Made (λ p. (p.0, None)) (SpellsStatements dialect ⋅ Sign mark.CloseBrace)
 
 -- "{" body, or in full ";"
-abbrev pub SpellsEnding : Bool → Bool → Option Body → Tokens → Type 0
-SpellsEnding full returns =
-    InFull full (Made (λ p. None) (Sign mark.Semicolon)) ∣ Made (λ p. Some p.1) (Sign mark.OpenBrace ⋅ SpellsBody full returns)
+abbrev pub SpellsEnding : Dialect → Bool → Option Body → Tokens → Type 0
+SpellsEnding dialect returns =
+    InFull dialect (Made (λ p. None) (Sign mark.Semicolon)) ∣ Made (λ p. Some p.1) (Sign mark.OpenBrace ⋅ SpellsBody dialect returns)
 
 abbrev pub returned_of : Option TypeName → Option RightSide → Option Returned
 returned_of (Some class) (Some value) = Some (record { class = class; value = value })
@@ -118,25 +119,25 @@ function_of h parameters (Some body) =
     item.Function (record { is_static = h.is_static; returned = returned_of h.class body.1; name = h.name; parameters = parameters; body = body.0 })
 
 -- "(" parameters ")" and the body, or in full ";"
-abbrev pub FunctionBehind : Bool → Heading → Item → Tokens → Type 0
-FunctionBehind full h =
+abbrev pub FunctionBehind : Dialect → Heading → Item → Tokens → Type 0
+FunctionBehind dialect h =
     Made (λ p. function_of h p.1.0 p.1.1.1)
-    (Sign mark.OpenParenthesis ⋅ SpellsParameters full ⋅ Sign mark.CloseParenthesis ⋅ SpellsEnding full (is_some h.class))
+    (Sign mark.OpenParenthesis ⋅ SpellsParameters dialect ⋅ Sign mark.CloseParenthesis ⋅ SpellsEnding dialect (is_some h.class))
 
 -- what stands behind the heading: for a type that of a variable or of a function, for `void` that of a function
-abbrev pub ItemBehind : Bool → Heading → Option TypeName → Item → Tokens → Type 0
-ItemBehind full h None = FunctionBehind full h
-ItemBehind full h (Some class) = VariableBehind h.is_static class h.name ∣ FunctionBehind full h
+abbrev pub ItemBehind : Dialect → Heading → Option TypeName → Item → Tokens → Type 0
+ItemBehind dialect h None = FunctionBehind dialect h
+ItemBehind dialect h (Some class) = VariableBehind h.is_static class h.name ∣ FunctionBehind dialect h
 
 -- a variable, a function, or in full a prototype
-abbrev pub SpellsDeclared : Bool → Item → Tokens → Type 0
-SpellsDeclared full i ts = (h : Heading) × (us vs : Tokens) × (ts ≡ us ++ vs) × SpellsHeading h us × ItemBehind full h h.class i vs
+abbrev pub SpellsDeclared : Dialect → Item → Tokens → Type 0
+SpellsDeclared dialect i ts = (h : Heading) × (us vs : Tokens) × (ts ≡ us ++ vs) × SpellsHeading h us × ItemBehind dialect h h.class i vs
 
-abbrev pub SpellsItem : Bool → Item → Tokens → Type 0
-SpellsItem full =
-    InFull full SpellsTypedef ∣ InFull full (Made item.External SpellsExternal) ∣ InFull full (Made item.Pointer SpellsPointer) ∣
-    SpellsDeclared full
+abbrev pub SpellsItem : Dialect → Item → Tokens → Type 0
+SpellsItem dialect =
+    InFull dialect SpellsTypedef ∣ InFull dialect (Made item.External SpellsExternal) ∣ InFull dialect (Made item.Pointer SpellsPointer) ∣
+    SpellsDeclared dialect
 
 -- { item }, the text ending there
-abbrev pub SpellsUnit : Bool → Place → CUnit → Tokens → Type 0
-SpellsUnit full end u ts = Each (SpellsItem full) u.items ts × (u.end ≡ end)
+abbrev pub SpellsUnit : Dialect → Place → CUnit → Tokens → Type 0
+SpellsUnit dialect end u ts = Each (SpellsItem dialect) u.items ts × (u.end ≡ end)

@@ -1,8 +1,9 @@
 -- What tokens stand for in the grammar.
-use Rattle.std.specs.Prelude.{ℕ, Bool, true, false, ◌||◌, List, codes, Option, Some, None, is_some}
+use Rattle.std.specs.Prelude.{Bool, true, false, ◌||◌, List, codes, Option, Some, None, is_some}
 use Rattle.std.specs.Str.{bytes_eq}
 use Rattle.hw_text.specs.declared.place.Place.{Place}
 use Rattle.hw_text.specs.declared.placed.Placed.{Placed}
+use Rattle.c_tree.specs.declared.identifier.Identifier.{Identifier}
 use Rattle.c_tree.specs.declared.integer_type.IntegerType.{IntegerType}
 use Rattle.c_tree.specs.declared.named.Named.{Named}
 use Rattle.c_tree.specs.declared.named.Literal.{Literal}
@@ -58,11 +59,11 @@ abbrev pub name_token : Named → Placed Token
 name_token x = record { token = token.Name x.name; place = x.place }
 
 -- where this name stands
-abbrev pub again_in : List ℕ → Token → Place → Option Place
-again_in n (token.Name other) at = found (bytes_eq other n) at
+abbrev pub again_in : Identifier → Token → Place → Option Place
+again_in n (token.Name other) at = found (bytes_eq other.bytes n.bytes) at
 again_in n _ at = None
 
-abbrev pub again_of : List ℕ → Placed Token → Option Place
+abbrev pub again_of : Identifier → Placed Token → Option Place
 again_of n t = again_in n t.token t.place
 
 abbrev pub literal_in : Token → Place → Option Literal
@@ -77,7 +78,7 @@ is_literal t = is_some (literal_of t)
 
 -- a literal that is spelled `0`
 abbrev pub zero_in : Token → Place → Option Place
-zero_in (token.Literal n) at = found (bytes_eq n (codes "0")) at
+zero_in (token.Literal n) at = found (bytes_eq n.bytes (codes "0")) at
 zero_in _ at = None
 
 abbrev pub zero_of : Placed Token → Option Place

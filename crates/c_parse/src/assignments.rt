@@ -10,7 +10,7 @@ use crate::expressions::{lvalue, lvalue_behind};
 use crate::leaf::sign;
 use crate::mark::Mark;
 use crate::token::Token;
-use c_tree::{Lvalue, Named, Statement};
+use c_tree::{Dialect, Lvalue, Named, Statement};
 use hw_text::{Cursor, Placed, ReadFault};
 use std::alloc::Global;
 
@@ -18,13 +18,13 @@ use std::alloc::Global;
 fn assigned_behind(
     alloc: Global,
     tokens: &mut Cursor<'_, Placed<Token>>,
-    full: bool,
+    dialect: Dialect,
     target: Lvalue,
 ) -> Result<Statement, ReadFault>
-    ensures { Reads (AssignedBehind full target) Anything tokens.old tokens.new result }
+    ensures { Reads (AssignedBehind dialect target) Anything tokens.old tokens.new result }
 {
     sign(tokens, Mark::Assign)?;
-    let value = right_side(alloc, tokens, full)?;
+    let value = right_side(alloc, tokens, dialect)?;
     sign(tokens, Mark::Semicolon)?;
     Ok(Statement::Assign { target, value })
 }
@@ -33,23 +33,23 @@ fn assigned_behind(
 pub fn assignment(
     alloc: Global,
     tokens: &mut Cursor<'_, Placed<Token>>,
-    full: bool,
+    dialect: Dialect,
 ) -> Result<Statement, ReadFault>
-    ensures { Reads (SpellsAssignment full) Anything tokens.old tokens.new result }
+    ensures { Reads (SpellsAssignment dialect) Anything tokens.old tokens.new result }
 {
-    let target = lvalue(alloc, tokens, full)?;
-    assigned_behind(alloc, tokens, full, target)
+    let target = lvalue(alloc, tokens, dialect)?;
+    assigned_behind(alloc, tokens, dialect, target)
 }
 
 /// Reads an assignment that begins with a name that was passed.
 pub fn assignment_behind(
     alloc: Global,
     tokens: &mut Cursor<'_, Placed<Token>>,
-    full: bool,
+    dialect: Dialect,
     name: Named,
 ) -> Result<Statement, ReadFault>
-    ensures { Reads (SpellsAssignment full) Anything (name_token name ∷ tokens.old) tokens.new result }
+    ensures { Reads (SpellsAssignment dialect) Anything (name_token name ∷ tokens.old) tokens.new result }
 {
-    let target = lvalue_behind(alloc, tokens, full, name)?;
-    assigned_behind(alloc, tokens, full, target)
+    let target = lvalue_behind(alloc, tokens, dialect, name)?;
+    assigned_behind(alloc, tokens, dialect, target)
 }

@@ -9,12 +9,12 @@ ghost use Rattle.c_parse.specs.ExpressionGrammar.{SpellsBase};
 ghost use Rattle.c_parse.specs.PartGrammar.{from_name, SpellsNumber, SpellsTruth, SpellsNamedBase, SpellsPointed, SpellsPointedBase, SpellsTarget};
 
 use crate::form::{Form, form_ahead};
-use crate::leaf::{read_one, sign, stands};
+use crate::leaf::{read_one, sign, stands_in_full};
 use crate::mark::Mark;
 use crate::names::name;
 use crate::terminals::{IntegerAt, LiteralAt, NameAt, TruthAt};
 use crate::token::Token;
-use c_tree::{Base, Expression, IntegerType, Named};
+use c_tree::{Base, Dialect, Expression, IntegerType, Named};
 use hw_text::{Cursor, Place, Placed, ReadFault};
 use std::alloc::Global;
 
@@ -74,13 +74,13 @@ pub fn pointed(alloc: Global, tokens: &mut Cursor<'_, Placed<Token>>) -> Result<
 fn named_base(
     alloc: Global,
     tokens: &mut Cursor<'_, Placed<Token>>,
-    full: bool,
+    dialect: Dialect,
     passed: Option<Named>,
 ) -> Result<Base, ReadFault>
-    ensures { Reads (SpellsNamedBase full) (BeginsWithout (is_mark mark.Arrow)) (from_name passed tokens.old) tokens.new result }
+    ensures { Reads (SpellsNamedBase dialect) (BeginsWithout (is_mark mark.Arrow)) (from_name passed tokens.old) tokens.new result }
 {
     let first = name(alloc, tokens, passed)?;
-    if !full || !stands(tokens, Mark::Arrow) {
+    if !stands_in_full(tokens, dialect, Mark::Arrow) {
         return Ok(Base::Variable(first));
     }
     sign(tokens, Mark::Arrow)?;
@@ -101,16 +101,16 @@ fn pointed_base(alloc: Global, tokens: &mut Cursor<'_, Placed<Token>>) -> Result
 pub fn base(
     alloc: Global,
     tokens: &mut Cursor<'_, Placed<Token>>,
-    full: bool,
+    dialect: Dialect,
     passed: Option<Named>,
 ) -> Result<Base, ReadFault>
-    ensures { Reads (SpellsBase full) (BeginsWithout (is_mark mark.Arrow)) (from_name passed tokens.old) tokens.new result }
+    ensures { Reads (SpellsBase dialect) (BeginsWithout (is_mark mark.Arrow)) (from_name passed tokens.old) tokens.new result }
 {
-    if !full {
-        return named_base(alloc, tokens, full, passed);
+    if !dialect.is_full() {
+        return named_base(alloc, tokens, dialect, passed);
     }
     match form_ahead(tokens, &passed) {
         Form::Parenthesis => pointed_base(alloc, tokens),
-        _ => named_base(alloc, tokens, full, passed),
+        _ => named_base(alloc, tokens, dialect, passed),
     }
 }

@@ -13,7 +13,7 @@ use crate::mark::Mark;
 use crate::plain::plain;
 use crate::token::Token;
 use crate::words::{stands_word, word};
-use c_tree::{Branch, Otherwise, Statement};
+use c_tree::{Branch, Dialect, Otherwise, Statement};
 use hw_text::{Cursor, Placed, ReadFault, Rows};
 use std::alloc::Global;
 
@@ -22,17 +22,17 @@ use std::alloc::Global;
 pub fn statement(
     alloc: Global,
     tokens: &mut Cursor<'_, Placed<Token>>,
-    full: bool,
+    dialect: Dialect,
 ) -> Result<Statement, ReadFault>
-    ensures { Reads (SpellsStatement full) NoElse tokens.old tokens.new result }
+    ensures { Reads (SpellsStatement dialect) NoElse tokens.old tokens.new result }
 {
     if stands_word(tokens, Keyword::If) {
-        return choice(alloc, tokens, full);
+        return choice(alloc, tokens, dialect);
     }
     if stands_word(tokens, Keyword::For) {
-        return repetition(alloc, tokens, full);
+        return repetition(alloc, tokens, dialect);
     }
-    plain(alloc, tokens, full)
+    plain(alloc, tokens, dialect)
 }
 
 /// Reads statements up to the end of their block.
@@ -40,13 +40,13 @@ pub fn statement(
 pub fn statements(
     alloc: Global,
     tokens: &mut Cursor<'_, Placed<Token>>,
-    full: bool,
+    dialect: Dialect,
 ) -> Result<Rows<Statement>, ReadFault>
-    ensures { Reads (SpellsStatements full) (BeginsWith ends_body) tokens.old tokens.new result }
+    ensures { Reads (SpellsStatements dialect) (BeginsWith ends_body) tokens.old tokens.new result }
 {
     let mut all = Rows::new(alloc);
     'all: while !stands_end(tokens) {
-        let next = statement(alloc, tokens, full)?;
+        let next = statement(alloc, tokens, dialect)?;
         all.push(next)?;
     }
     Ok(all)
@@ -57,12 +57,12 @@ pub fn statements(
 pub fn block(
     alloc: Global,
     tokens: &mut Cursor<'_, Placed<Token>>,
-    full: bool,
+    dialect: Dialect,
 ) -> Result<Rows<Statement>, ReadFault>
-    ensures { Reads (SpellsBlock full) Anything tokens.old tokens.new result }
+    ensures { Reads (SpellsBlock dialect) Anything tokens.old tokens.new result }
 {
     sign(tokens, Mark::OpenBrace)?;
-    let body = statements(alloc, tokens, full)?;
+    let body = statements(alloc, tokens, dialect)?;
     sign(tokens, Mark::CloseBrace)?;
     Ok(body)
 }
@@ -72,13 +72,13 @@ pub fn block(
 fn branch(
     alloc: Global,
     tokens: &mut Cursor<'_, Placed<Token>>,
-    full: bool,
+    dialect: Dialect,
 ) -> Result<Branch, ReadFault>
-    ensures { Reads (SpellsBranch full) Anything tokens.old tokens.new result }
+    ensures { Reads (SpellsBranch dialect) Anything tokens.old tokens.new result }
 {
     word(tokens, Keyword::If)?;
-    let condition = condition(alloc, tokens, full)?;
-    let body = block(alloc, tokens, full)?;
+    let condition = condition(alloc, tokens, dialect)?;
+    let body = block(alloc, tokens, dialect)?;
     Ok(Branch { condition, body })
 }
 
@@ -87,12 +87,12 @@ fn branch(
 fn choice(
     alloc: Global,
     tokens: &mut Cursor<'_, Placed<Token>>,
-    full: bool,
+    dialect: Dialect,
 ) -> Result<Statement, ReadFault>
-    ensures { Reads (SpellsChoice full) NoElse tokens.old tokens.new result }
+    ensures { Reads (SpellsChoice dialect) NoElse tokens.old tokens.new result }
 {
-    let first = branch(alloc, tokens, full)?;
-    let (others, otherwise) = otherwise(alloc, tokens, full)?;
+    let first = branch(alloc, tokens, dialect)?;
+    let (others, otherwise) = otherwise(alloc, tokens, dialect)?;
     Ok(Statement::If {
         first,
         others,
@@ -105,18 +105,18 @@ fn choice(
 fn otherwise(
     alloc: Global,
     tokens: &mut Cursor<'_, Placed<Token>>,
-    full: bool,
+    dialect: Dialect,
 ) -> Result<(Rows<Branch>, Otherwise), ReadFault>
-    ensures { Reads (SpellsElse full 0) NoElse tokens.old tokens.new result }
+    ensures { Reads (SpellsElse dialect 0) NoElse tokens.old tokens.new result }
 {
     let mut others = Rows::new(alloc);
     'others: while stands_word(tokens, Keyword::Else) {
         word(tokens, Keyword::Else)?;
-        if !goes_on(tokens, full, others.len()) {
-            let body = block(alloc, tokens, full)?;
+        if !goes_on(tokens, dialect, others.len()) {
+            let body = block(alloc, tokens, dialect)?;
             return Ok((others, Otherwise::Block(body)));
         }
-        let next = branch(alloc, tokens, full)?;
+        let next = branch(alloc, tokens, dialect)?;
         others.push(next)?;
     }
     Ok((others, Otherwise::Nothing))
@@ -127,19 +127,19 @@ fn otherwise(
 fn repetition(
     alloc: Global,
     tokens: &mut Cursor<'_, Placed<Token>>,
-    full: bool,
+    dialect: Dialect,
 ) -> Result<Statement, ReadFault>
-    ensures { Reads (SpellsFor full) Anything tokens.old tokens.new result }
+    ensures { Reads (SpellsFor dialect) Anything tokens.old tokens.new result }
 {
     word(tokens, Keyword::For)?;
     sign(tokens, Mark::OpenParenthesis)?;
-    if stands_in_full(tokens, full, Mark::Semicolon) {
+    if stands_in_full(tokens, dialect, Mark::Semicolon) {
         forever_head(tokens)?;
-        let body = block(alloc, tokens, full)?;
+        let body = block(alloc, tokens, dialect)?;
         return Ok(Statement::Forever(body));
     }
     let (start, end) = count(alloc, tokens)?;
-    let body = block(alloc, tokens, full)?;
+    let body = block(alloc, tokens, dialect)?;
     Ok(Statement::Count {
         class: start.class,
         name: start.name,

@@ -1,15 +1,13 @@
 //! The literals of ranges, and what they are worth.
 
-ghost use Rattle.std.specs.Prelude.{◌≡◌, reverse, pos, Some};
+ghost use Rattle.std.specs.Prelude.{◌≡◌, reverse};
 ghost use Rattle.std.specs.Option.{option_map};
-ghost use Rattle.c_tree.specs.Numerals.{numeral_value, numeral_type};
-ghost use Rattle.c_parse.specs.Ranges.{wrapped, negated, numeral_under};
 ghost use Rattle.c_parse.specs.RangeEnds.{last_bound};
 
 use crate::ends::{last, last_mark};
 use crate::mark::Mark;
 use crate::token::Token;
-use c_tree::{IntegerType, Numeral};
+use c_tree::value_under;
 use hw_text::{Place, Placed};
 
 /// A literal of a range: where it begins, which may be at a minus, and its value.
@@ -33,34 +31,4 @@ pub fn last_signed(tokens: &[Placed<Token>]) -> Option<(Bound, &[Placed<Token>])
     };
     let value = value_under(negative, numeral);
     Some((Bound { place, value }, rest))
-}
-
-/// The value of a literal, maybe behind a minus.
-fn value_under(negative: bool, numeral: &Numeral) -> i128
-    ensures { result ≡ numeral_under negative (numeral_type numeral.now) (numeral_value numeral.now) }
-{
-    if negative {
-        negated(numeral.class(), numeral.value())
-    } else {
-        i128::from(numeral.value())
-    }
-}
-
-/// The value of a literal of the type behind a minus.
-fn negated(class: IntegerType, value: u64) -> i128
-    ensures { result ≡ negated (Some class) value }
-{
-    match class {
-        IntegerType::U32 | IntegerType::U64 => wrapped(class.largest(), value),
-        _ => -i128::from(value),
-    }
-}
-
-/// So many below zero, reduced by one more than the largest number.
-fn wrapped(most: u64, value: u64) -> i128
-    ensures { result ≡ pos (wrapped most value) }
-{
-    let modulus = u128::from(most) + 1;
-    let reduced = modulus.saturating_sub(u128::from(value)) % modulus;
-    reduced as i128
 }

@@ -17,7 +17,7 @@ use crate::names::{name, pass_name};
 use crate::operators::LOOSEST_LEVEL;
 use crate::terminals::NameAt;
 use crate::token::Token;
-use c_tree::{Argument, Call, Named, RightSide};
+use c_tree::{Argument, Call, Dialect, Named, RightSide};
 use hw_text::{Cursor, Placed, ReadFault, Rows};
 use std::alloc::Global;
 
@@ -25,16 +25,16 @@ use std::alloc::Global;
 pub fn argument(
     alloc: Global,
     tokens: &mut Cursor<'_, Placed<Token>>,
-    full: bool,
+    dialect: Dialect,
 ) -> Result<Argument, ReadFault>
-    ensures { Reads (SpellsArgument full) (Ends loosest_level) tokens.old tokens.new result }
+    ensures { Reads (SpellsArgument dialect) (Ends loosest_level) tokens.old tokens.new result }
 {
     if stands(tokens, Mark::Ampersand) {
         let place = sign(tokens, Mark::Ampersand)?;
         let variable = read_one::<NameAt>(alloc, tokens)?;
         return Ok(Argument::Address(place, variable));
     }
-    let value = expression(alloc, tokens, full)?;
+    let value = expression(alloc, tokens, dialect)?;
     Ok(Argument::Value(value))
 }
 
@@ -42,12 +42,12 @@ pub fn argument(
 fn next_argument(
     alloc: Global,
     tokens: &mut Cursor<'_, Placed<Token>>,
-    full: bool,
+    dialect: Dialect,
 ) -> Result<Argument, ReadFault>
-    ensures { Reads (BehindComma (SpellsArgument full)) (Ends loosest_level) tokens.old tokens.new result }
+    ensures { Reads (BehindComma (SpellsArgument dialect)) (Ends loosest_level) tokens.old tokens.new result }
 {
     sign(tokens, Mark::Comma)?;
-    let next = argument(alloc, tokens, full)?;
+    let next = argument(alloc, tokens, dialect)?;
     Ok(next)
 }
 
@@ -55,18 +55,18 @@ fn next_argument(
 fn arguments(
     alloc: Global,
     tokens: &mut Cursor<'_, Placed<Token>>,
-    full: bool,
+    dialect: Dialect,
 ) -> Result<Rows<Argument>, ReadFault>
-    ensures { Reads (Separated (SpellsArgument full)) (BeginsWith (is_mark mark.CloseParenthesis)) tokens.old tokens.new result }
+    ensures { Reads (Separated (SpellsArgument dialect)) (BeginsWith (is_mark mark.CloseParenthesis)) tokens.old tokens.new result }
 {
     let mut read = Rows::new(alloc);
     if stands(tokens, Mark::CloseParenthesis) {
         return Ok(read);
     }
-    let first = argument(alloc, tokens, full)?;
+    let first = argument(alloc, tokens, dialect)?;
     read.push(first)?;
     'arguments: while stands(tokens, Mark::Comma) {
-        let next = next_argument(alloc, tokens, full)?;
+        let next = next_argument(alloc, tokens, dialect)?;
         read.push(next)?;
     }
     Ok(read)
@@ -76,14 +76,14 @@ fn arguments(
 fn call_from(
     alloc: Global,
     tokens: &mut Cursor<'_, Placed<Token>>,
-    full: bool,
+    dialect: Dialect,
     passed: Option<Named>,
 ) -> Result<Call, ReadFault>
-    ensures { Reads (SpellsCall full) Anything (from_name passed tokens.old) tokens.new result }
+    ensures { Reads (SpellsCall dialect) Anything (from_name passed tokens.old) tokens.new result }
 {
     let name = name(alloc, tokens, passed)?;
     sign(tokens, Mark::OpenParenthesis)?;
-    let arguments = arguments(alloc, tokens, full)?;
+    let arguments = arguments(alloc, tokens, dialect)?;
     sign(tokens, Mark::CloseParenthesis)?;
     Ok(Call { name, arguments })
 }
@@ -92,27 +92,27 @@ fn call_from(
 pub fn call_behind(
     alloc: Global,
     tokens: &mut Cursor<'_, Placed<Token>>,
-    full: bool,
+    dialect: Dialect,
     name: Named,
 ) -> Result<Call, ReadFault>
-    ensures { Reads (SpellsCall full) Anything (name_token name ∷ tokens.old) tokens.new result }
+    ensures { Reads (SpellsCall dialect) Anything (name_token name ∷ tokens.old) tokens.new result }
 {
-    call_from(alloc, tokens, full, Some(name))
+    call_from(alloc, tokens, dialect, Some(name))
 }
 
 /// Reads what stands on the right: a call, or an expression.
 pub fn right_side(
     alloc: Global,
     tokens: &mut Cursor<'_, Placed<Token>>,
-    full: bool,
+    dialect: Dialect,
 ) -> Result<RightSide, ReadFault>
-    ensures { Reads (SpellsRightSide full) RightEnds tokens.old tokens.new result }
+    ensures { Reads (SpellsRightSide dialect) RightEnds tokens.old tokens.new result }
 {
     let passed = pass_name(alloc, tokens)?;
     if passed.is_some() && stands(tokens, Mark::OpenParenthesis) {
-        let call = call_from(alloc, tokens, full, passed)?;
+        let call = call_from(alloc, tokens, dialect, passed)?;
         return Ok(RightSide::Call(call));
     }
-    let value = of_level(alloc, tokens, full, LOOSEST_LEVEL, passed)?;
+    let value = of_level(alloc, tokens, dialect, LOOSEST_LEVEL, passed)?;
     Ok(RightSide::Value(value))
 }

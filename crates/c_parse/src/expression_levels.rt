@@ -16,9 +16,8 @@ use crate::mark::Mark;
 use crate::operators::{LOOSEST_LEVEL, PREFIX_LEVEL, operator_ahead};
 use crate::terminals::{NameAt, UnaryAt};
 use crate::token::Token;
-use crate::trees::{binary, cast, started_at, unary, value_of};
 use crate::types::stands_integer;
-use c_tree::{Base, Expression, Lvalue, Named, Selector};
+use c_tree::{Base, Dialect, Expression, Lvalue, Named, Selector};
 use hw_text::{Cursor, Placed, ReadFault, Rows};
 use std::alloc::Global;
 
@@ -27,21 +26,21 @@ use std::alloc::Global;
 pub fn of_level(
     alloc: Global,
     tokens: &mut Cursor<'_, Placed<Token>>,
-    full: bool,
+    dialect: Dialect,
     level: u8,
     passed: Option<Named>,
 ) -> Result<Expression, ReadFault>
     requires { level ≤ prefix_level }
-    ensures { Reads (SpellsExpression full level) (Ends level) (from_name passed tokens.old) tokens.new result }
+    ensures { Reads (SpellsExpression dialect level) (Ends level) (from_name passed tokens.old) tokens.new result }
 {
     if level == PREFIX_LEVEL {
-        return operand(alloc, tokens, full, passed);
+        return operand(alloc, tokens, dialect, passed);
     }
-    let mut left = of_level(alloc, tokens, full, level + 1, passed)?;
+    let mut left = of_level(alloc, tokens, dialect, level + 1, passed)?;
     'operations: while let Some((place, operator)) = operator_ahead(tokens, level) {
         tokens.pass();
-        let right = of_level(alloc, tokens, full, level + 1, None)?;
-        left = binary(alloc, left, place, operator, right)?;
+        let right = of_level(alloc, tokens, dialect, level + 1, None)?;
+        left = Expression::binary(alloc, left, place, operator, right)?;
     }
     Ok(left)
 }
@@ -51,19 +50,19 @@ pub fn of_level(
 fn operand(
     alloc: Global,
     tokens: &mut Cursor<'_, Placed<Token>>,
-    full: bool,
+    dialect: Dialect,
     passed: Option<Named>,
 ) -> Result<Expression, ReadFault>
-    ensures { Reads (SpellsPrefix full) (Ends prefix_level) (from_name passed tokens.old) tokens.new result }
+    ensures { Reads (SpellsPrefix dialect) (Ends prefix_level) (from_name passed tokens.old) tokens.new result }
 {
     match form_ahead(tokens, &passed) {
-        Form::Parenthesis => opened(alloc, tokens, full),
-        Form::Operator => prefixed(alloc, tokens, full),
+        Form::Parenthesis => opened(alloc, tokens, dialect),
+        Form::Operator => prefixed(alloc, tokens, dialect),
         Form::Literal => number(alloc, tokens),
         Form::Truth => truth(alloc, tokens),
         _ => {
-            let lvalue = lvalue(alloc, tokens, full, passed)?;
-            Ok(value_of(lvalue))
+            let lvalue = lvalue(alloc, tokens, dialect, passed)?;
+            Ok(Expression::of_lvalue(lvalue))
         }
     }
 }
@@ -73,14 +72,14 @@ fn operand(
 fn prefixed(
     alloc: Global,
     tokens: &mut Cursor<'_, Placed<Token>>,
-    full: bool,
+    dialect: Dialect,
 ) -> Result<Expression, ReadFault>
     requires { form_ahead tokens.old ≡ form.Operator }
-    ensures { Reads (SpellsPrefix full) (Ends prefix_level) tokens.old tokens.new result }
+    ensures { Reads (SpellsPrefix dialect) (Ends prefix_level) tokens.old tokens.new result }
 {
     let (place, operator) = read_one::<UnaryAt>(alloc, tokens)?;
-    let inner = operand(alloc, tokens, full, None)?;
-    Ok(unary(alloc, place, operator, inner)?)
+    let inner = operand(alloc, tokens, dialect, None)?;
+    Ok(Expression::unary(alloc, place, operator, inner)?)
 }
 
 /// Reads an operand that begins with a `(`: a cast, what a pointer points to, or an expression in parentheses.
@@ -88,25 +87,25 @@ fn prefixed(
 fn opened(
     alloc: Global,
     tokens: &mut Cursor<'_, Placed<Token>>,
-    full: bool,
+    dialect: Dialect,
 ) -> Result<Expression, ReadFault>
     requires { form_ahead tokens.old ≡ form.Parenthesis }
-    ensures { Reads (SpellsPrefix full) (Ends prefix_level) tokens.old tokens.new result }
+    ensures { Reads (SpellsPrefix dialect) (Ends prefix_level) tokens.old tokens.new result }
 {
     let start = sign(tokens, Mark::OpenParenthesis)?;
     if stands_integer(tokens) {
         let (_, class) = target(alloc, tokens)?;
-        let inner = operand(alloc, tokens, full, None)?;
-        return Ok(cast(alloc, start, class, inner)?);
+        let inner = operand(alloc, tokens, dialect, None)?;
+        return Ok(Expression::cast(alloc, start, class, inner)?);
     }
-    if full && stands(tokens, Mark::Star) {
+    if dialect.is_full() && stands(tokens, Mark::Star) {
         let base = Base::Pointed(start, pointed(alloc, tokens)?);
-        let parts = selectors(alloc, tokens, full)?;
-        return Ok(value_of(Lvalue { base, parts }));
+        let parts = selectors(alloc, tokens, dialect)?;
+        return Ok(Expression::of_lvalue(Lvalue { base, parts }));
     }
-    let inner = of_level(alloc, tokens, full, LOOSEST_LEVEL, None)?;
+    let inner = of_level(alloc, tokens, dialect, LOOSEST_LEVEL, None)?;
     sign(tokens, Mark::CloseParenthesis)?;
-    Ok(started_at(start, inner))
+    Ok(inner.started_at(start))
 }
 
 /// Reads an lvalue, from a name on, if one was passed.
@@ -114,13 +113,13 @@ fn opened(
 pub fn lvalue(
     alloc: Global,
     tokens: &mut Cursor<'_, Placed<Token>>,
-    full: bool,
+    dialect: Dialect,
     passed: Option<Named>,
 ) -> Result<Lvalue, ReadFault>
-    ensures { Reads (SpellsLvalue full) (BeginsWithout is_selector) (from_name passed tokens.old) tokens.new result }
+    ensures { Reads (SpellsLvalue dialect) (BeginsWithout is_selector) (from_name passed tokens.old) tokens.new result }
 {
-    let base = base(alloc, tokens, full, passed)?;
-    let parts = selectors(alloc, tokens, full)?;
+    let base = base(alloc, tokens, dialect, passed)?;
+    let parts = selectors(alloc, tokens, dialect)?;
     Ok(Lvalue { base, parts })
 }
 
@@ -129,13 +128,13 @@ pub fn lvalue(
 fn selectors(
     alloc: Global,
     tokens: &mut Cursor<'_, Placed<Token>>,
-    full: bool,
+    dialect: Dialect,
 ) -> Result<Rows<Selector>, ReadFault>
-    ensures { Reads (SpellsParts full) (BeginsWithout is_selector) tokens.old tokens.new result }
+    ensures { Reads (SpellsParts dialect) (BeginsWithout is_selector) tokens.old tokens.new result }
 {
     let mut parts = Rows::new(alloc);
     'parts: while stands_part(tokens) {
-        let part = selector(alloc, tokens, full)?;
+        let part = selector(alloc, tokens, dialect)?;
         parts.push(part)?;
     }
     Ok(parts)
@@ -145,9 +144,9 @@ fn selectors(
 fn selector(
     alloc: Global,
     tokens: &mut Cursor<'_, Placed<Token>>,
-    full: bool,
+    dialect: Dialect,
 ) -> Result<Selector, ReadFault>
-    ensures { Reads (SpellsPart full) Anything tokens.old tokens.new result }
+    ensures { Reads (SpellsPart dialect) Anything tokens.old tokens.new result }
 {
     if stands(tokens, Mark::Dot) {
         sign(tokens, Mark::Dot)?;
@@ -155,7 +154,7 @@ fn selector(
         return Ok(Selector::Member(member));
     }
     sign(tokens, Mark::OpenBracket)?;
-    let index = of_level(alloc, tokens, full, LOOSEST_LEVEL, None)?;
+    let index = of_level(alloc, tokens, dialect, LOOSEST_LEVEL, None)?;
     sign(tokens, Mark::CloseBracket)?;
     Ok(Selector::Index(index))
 }

@@ -10,7 +10,7 @@ ghost use Rattle.c_parse.specs.ExpressionGrammar.{SpellsWhole, SpellsLvalue};
 use crate::expression_levels;
 use crate::operators::LOOSEST_LEVEL;
 use crate::token::Token;
-use c_tree::{Expression, Lvalue, Named};
+use c_tree::{Dialect, Expression, Lvalue, Named};
 use hw_text::{Cursor, Placed, ReadFault};
 use std::alloc::Global;
 
@@ -18,32 +18,32 @@ use std::alloc::Global;
 pub fn expression(
     alloc: Global,
     tokens: &mut Cursor<'_, Placed<Token>>,
-    full: bool,
+    dialect: Dialect,
 ) -> Result<Expression, ReadFault>
-    ensures { Reads (SpellsWhole full) (Ends loosest_level) tokens.old tokens.new result }
+    ensures { Reads (SpellsWhole dialect) (Ends loosest_level) tokens.old tokens.new result }
 {
-    expression_levels::of_level(alloc, tokens, full, LOOSEST_LEVEL, None)
+    expression_levels::of_level(alloc, tokens, dialect, LOOSEST_LEVEL, None)
 }
 
 /// Reads an lvalue.
 pub fn lvalue(
     alloc: Global,
     tokens: &mut Cursor<'_, Placed<Token>>,
-    full: bool,
+    dialect: Dialect,
 ) -> Result<Lvalue, ReadFault>
-    ensures { Reads (SpellsLvalue full) (BeginsWithout is_selector) tokens.old tokens.new result }
+    ensures { Reads (SpellsLvalue dialect) (BeginsWithout is_selector) tokens.old tokens.new result }
 {
-    expression_levels::lvalue(alloc, tokens, full, None)
+    expression_levels::lvalue(alloc, tokens, dialect, None)
 }
 
 /// Reads an lvalue that begins with a name that was passed.
 pub fn lvalue_behind(
     alloc: Global,
     tokens: &mut Cursor<'_, Placed<Token>>,
-    full: bool,
+    dialect: Dialect,
     name: Named,
 ) -> Result<Lvalue, ReadFault>
-    ensures { Reads (SpellsLvalue full) (BeginsWithout is_selector) (name_token name ∷ tokens.old) tokens.new result }
+    ensures { Reads (SpellsLvalue dialect) (BeginsWithout is_selector) (name_token name ∷ tokens.old) tokens.new result }
 {
-    expression_levels::lvalue(alloc, tokens, full, Some(name))
+    expression_levels::lvalue(alloc, tokens, dialect, Some(name))
 }

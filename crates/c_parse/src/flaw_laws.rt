@@ -6,6 +6,8 @@ ghost use Rattle.hw_text.specs.declared.placed.Placed.{Placed};
 ghost use Rattle.hw_text.specs.WholeLists.{GoesOn};
 ghost use Rattle.hw_text.specs.WholeTexts.{FailsAt};
 ghost use Rattle.c_tree.specs.declared.expression.Expression.{Expression};
+ghost use Rattle.c_tree.specs.declared.dialect.Dialect.TheVariants.{User};
+ghost use Rattle.c_tree.specs.declared.dialect.Dialect.{Dialect};
 ghost use Rattle.c_parse.specs.declared.flaw.Flaw.TheVariants.{TooLong};
 ghost use Rattle.c_parse.specs.declared.token.Token.{Token};
 ghost use Rattle.c_parse.specs.Values.{Tokens};
@@ -24,20 +26,20 @@ ghost use Rattle.c_parse.specs.WholeUnits.{user_rules};
 /// or to the end.
 pub fn long_expressions()
     ensures found { (before ts after : Tokens) (t : Placed Token) (x : Expression) → leads t.token ≡ true →
-        SpellsWhole false x ts → 500 < length ts → is_too_long (before ++ t ∷ (ts ++ after)) (length before + 501) ≡ true }
-    ensures sound { (before ts after : Tokens) (t : Placed Token) (x : Expression) → leads t.token ≡ true → SpellsWhole false x ts →
-        ((k : ℕ) → flaw_at false (before ++ t ∷ (ts ++ after)) k ≡ None) → length ts ≤ 500 }
-    ensures ended { (ts after : Tokens) (t : Placed Token) (x : Expression) → SpellsWhole false x ts →
+        SpellsWhole User x ts → 500 < length ts → is_too_long (before ++ t ∷ (ts ++ after)) (length before + 501) ≡ true }
+    ensures sound { (before ts after : Tokens) (t : Placed Token) (x : Expression) → leads t.token ≡ true → SpellsWhole User x ts →
+        ((k : ℕ) → flaw_at User (before ++ t ∷ (ts ++ after)) k ≡ None) → length ts ≤ 500 }
+    ensures ended { (ts after : Tokens) (t : Placed Token) (x : Expression) → SpellsWhole User x ts →
         ends t.token ≡ true → expression_length (ts ++ t ∷ after) ≡ length ts }
-    ensures last { (ts : Tokens) (x : Expression) → SpellsWhole false x ts → expression_length ts ≡ length ts }
+    ensures last { (ts : Tokens) (x : Expression) → SpellsWhole User x ts → expression_length ts ≡ length ts }
 {}
 
 /// A token that is told as one too many, where nothing is wrong before, is the 501st of an
 /// expression that stands in no other, in a text that goes on with it. What is refused for such a
 /// token is told where that expression begins. The 501st token of each such expression is found.
 pub fn outermost_expressions()
-    ensures refused { (ts : Tokens) (i : ℕ) (end : Place) → GoesOn (SpellsUnit false end) (take (i + 1) ts) → flaw_at false ts i ≡ Some TooLong →
-        ((k : ℕ) → k < i → flaw_at false ts k ≡ None) → IsTooLongAt end ts i }
+    ensures refused { (ts : Tokens) (i : ℕ) (end : Place) → GoesOn (SpellsUnit User end) (take (i + 1) ts) → flaw_at User ts i ≡ Some TooLong →
+        ((k : ℕ) → k < i → flaw_at User ts k ≡ None) → IsTooLongAt end ts i }
     ensures failure { (ts : Tokens) (end : Place) (stop : List ℕ) (i n : ℕ) (at : Place) →
         FailsAt user_rules ts end stop i (limit (codes "tokens") at n 500) → IsTooLongAt end ts i × (at ≡ place_at ts (i - 500)) }
     ensures told { (ts : Tokens) (i : ℕ) (end : Place) → i < length ts → IsTooLongAt end ts i → is_too_long ts i ≡ true }
@@ -48,5 +50,5 @@ pub fn outermost_expressions()
 pub fn empty_ranges()
     ensures found { (ts : Tokens) (i : ℕ) (at : Place) → IsEmptyRange ts i at → empty_range_at ts i ≡ Some at }
     ensures only { (ts : Tokens) (i : ℕ) (at : Place) → empty_range_at ts i ≡ Some at → IsEmptyRange ts i at }
-    ensures sound { (full : Bool) (ts : Tokens) (i : ℕ) (at : Place) → flaw_at full ts i ≡ None → IsEmptyRange ts i at → ⊥ }
+    ensures sound { (dialect : Dialect) (ts : Tokens) (i : ℕ) (at : Place) → flaw_at dialect ts i ≡ None → IsEmptyRange ts i at → ⊥ }
 {}

@@ -12,17 +12,18 @@ use crate::nesting::{Brackets, expression_length, leads, opens};
 use crate::ranges::empty_range_at;
 use crate::refusals::{limit, syntax};
 use crate::token::Token;
+use c_tree::Dialect;
 use hw_text::{Cursor, NoMemory, Place, Placed, Refusal};
 use std::alloc::Global;
 
 /// The first token with which something is wrong, in the full grammar or in that of users.
-pub fn first_flawed(tokens: &[Placed<Token>], full: bool) -> Option<Flawed>
-    ensures { MatchOption result ((k : ℕ) → flaw_at full tokens.now k ≡ None)
-        (λ f. (flaw_at full tokens.now f.index ≡ Some f.flaw) × ((k : ℕ) → k < f.index → flaw_at full tokens.now k ≡ None)) }
+pub fn first_flawed(tokens: &[Placed<Token>], dialect: Dialect) -> Option<Flawed>
+    ensures { MatchOption result ((k : ℕ) → flaw_at dialect tokens.now k ≡ None)
+        (λ f. (flaw_at dialect tokens.now f.index ≡ Some f.flaw) × ((k : ℕ) → k < f.index → flaw_at dialect tokens.now k ≡ None)) }
 {
     let mut brackets = Brackets::NONE;
     for (index, placed) in tokens.iter().enumerate() {
-        if let Some(flaw) = flaw_at(tokens, index, brackets.open(), full) {
+        if let Some(flaw) = flaw_at(tokens, index, brackets.open(), dialect) {
             return Some(Flawed { index, flaw });
         }
         brackets = brackets.behind(&placed.token);
@@ -31,14 +32,14 @@ pub fn first_flawed(tokens: &[Placed<Token>], full: bool) -> Option<Flawed>
 }
 
 /// What is wrong with the token at the index, before which so many brackets are open.
-fn flaw_at(tokens: &[Placed<Token>], index: usize, depth: usize, full: bool) -> Option<Flaw>
+fn flaw_at(tokens: &[Placed<Token>], index: usize, depth: usize, dialect: Dialect) -> Option<Flaw>
     requires within { index < length tokens.now }
     requires counted { depth ≡ open_behind (take index tokens.now) }
-    ensures { result ≡ flaw_at full tokens.now index }
+    ensures { result ≡ flaw_at dialect tokens.now index }
 {
-    if !full && is_too_deep(tokens, index, depth) {
+    if !dialect.is_full() && is_too_deep(tokens, index, depth) {
         Some(Flaw::TooDeep)
-    } else if !full && is_too_long(tokens, index) {
+    } else if !dialect.is_full() && is_too_long(tokens, index) {
         Some(Flaw::TooLong)
     } else if empty_range_at(tokens, index).is_some() {
         Some(Flaw::EmptyRange)

@@ -13,7 +13,9 @@ use crate::mark::Mark;
 use crate::parameter_list::parameters;
 use crate::token::Token;
 use crate::words::word;
-use c_tree::{Function, Item, Parameter, Prototype, Returned, RightSide, Statement, TypeName};
+use c_tree::{
+    Dialect, Function, Item, Parameter, Prototype, Returned, RightSide, Statement, TypeName,
+};
 use hw_text::{Cursor, Placed, ReadFault, Rows};
 use std::alloc::Global;
 
@@ -21,18 +23,18 @@ use std::alloc::Global;
 fn body(
     alloc: Global,
     tokens: &mut Cursor<'_, Placed<Token>>,
-    full: bool,
+    dialect: Dialect,
     class: &Option<TypeName>,
 ) -> Result<(Rows<Statement>, Option<RightSide>), ReadFault>
-    ensures { Reads (SpellsBody full (is_some class.now)) Anything tokens.old tokens.new result }
+    ensures { Reads (SpellsBody dialect (is_some class.now)) Anything tokens.old tokens.new result }
 {
-    let all = statements(alloc, tokens, full)?;
+    let all = statements(alloc, tokens, dialect)?;
     let Some(_) = class else {
         sign(tokens, Mark::CloseBrace)?;
         return Ok((all, None));
     };
     word(tokens, Keyword::Return)?;
-    let value = right_side(alloc, tokens, full)?;
+    let value = right_side(alloc, tokens, dialect)?;
     sign(tokens, Mark::Semicolon)?;
     sign(tokens, Mark::CloseBrace)?;
     Ok((all, Some(value)))
@@ -42,17 +44,17 @@ fn body(
 fn ending(
     alloc: Global,
     tokens: &mut Cursor<'_, Placed<Token>>,
-    full: bool,
+    dialect: Dialect,
     class: &Option<TypeName>,
 ) -> Result<Option<(Rows<Statement>, Option<RightSide>)>, ReadFault>
-    ensures { Reads (SpellsEnding full (is_some class.now)) Anything tokens.old tokens.new result }
+    ensures { Reads (SpellsEnding dialect (is_some class.now)) Anything tokens.old tokens.new result }
 {
-    if stands_in_full(tokens, full, Mark::Semicolon) {
+    if stands_in_full(tokens, dialect, Mark::Semicolon) {
         sign(tokens, Mark::Semicolon)?;
         return Ok(None);
     }
     sign(tokens, Mark::OpenBrace)?;
-    let body = body(alloc, tokens, full, class)?;
+    let body = body(alloc, tokens, dialect, class)?;
     Ok(Some(body))
 }
 
@@ -94,14 +96,14 @@ fn function(
 pub fn function_behind(
     alloc: Global,
     tokens: &mut Cursor<'_, Placed<Token>>,
-    full: bool,
+    dialect: Dialect,
     heading: Heading,
 ) -> Result<Item, ReadFault>
-    ensures { Reads (FunctionBehind full heading) Anything tokens.old tokens.new result }
+    ensures { Reads (FunctionBehind dialect heading) Anything tokens.old tokens.new result }
 {
     sign(tokens, Mark::OpenParenthesis)?;
-    let parameters = parameters(alloc, tokens, full)?;
+    let parameters = parameters(alloc, tokens, dialect)?;
     sign(tokens, Mark::CloseParenthesis)?;
-    let body = ending(alloc, tokens, full, &heading.class)?;
+    let body = ending(alloc, tokens, dialect, &heading.class)?;
     Ok(function(heading, parameters, body))
 }

@@ -14,7 +14,7 @@ use crate::token::Token;
 use crate::typedefs::typedef;
 use crate::variables::variable_behind;
 use crate::words::stands_word_in_full;
-use c_tree::Item;
+use c_tree::{Dialect, Item};
 use hw_text::{Cursor, Placed, ReadFault, Rows};
 use std::alloc::Global;
 
@@ -22,10 +22,10 @@ use std::alloc::Global;
 fn item_behind(
     alloc: Global,
     tokens: &mut Cursor<'_, Placed<Token>>,
-    full: bool,
+    dialect: Dialect,
     heading: Heading,
 ) -> Result<Item, ReadFault>
-    ensures { Reads (ItemBehind full heading heading.class) Anything tokens.old tokens.new result }
+    ensures { Reads (ItemBehind dialect heading heading.class) Anything tokens.old tokens.new result }
 {
     let Heading {
         is_static,
@@ -38,7 +38,7 @@ fn item_behind(
             class: None,
             name,
         };
-        return function_behind(alloc, tokens, full, heading);
+        return function_behind(alloc, tokens, dialect, heading);
     };
     if stands(tokens, Mark::OpenParenthesis) {
         let heading = Heading {
@@ -46,7 +46,7 @@ fn item_behind(
             class: Some(class),
             name,
         };
-        return function_behind(alloc, tokens, full, heading);
+        return function_behind(alloc, tokens, dialect, heading);
     }
     variable_behind(alloc, tokens, is_static, class, name)
 }
@@ -55,47 +55,47 @@ fn item_behind(
 fn declared(
     alloc: Global,
     tokens: &mut Cursor<'_, Placed<Token>>,
-    full: bool,
+    dialect: Dialect,
 ) -> Result<Item, ReadFault>
-    ensures { Reads (SpellsDeclared full) Anything tokens.old tokens.new result }
+    ensures { Reads (SpellsDeclared dialect) Anything tokens.old tokens.new result }
 {
     let heading = read_heading(alloc, tokens)?;
-    item_behind(alloc, tokens, full, heading)
+    item_behind(alloc, tokens, dialect, heading)
 }
 
 /// Reads an item.
 pub fn item(
     alloc: Global,
     tokens: &mut Cursor<'_, Placed<Token>>,
-    full: bool,
+    dialect: Dialect,
 ) -> Result<Item, ReadFault>
-    ensures { Reads (SpellsItem full) Anything tokens.old tokens.new result }
+    ensures { Reads (SpellsItem dialect) Anything tokens.old tokens.new result }
 {
-    if stands_word_in_full(tokens, full, Keyword::Typedef) {
+    if stands_word_in_full(tokens, dialect, Keyword::Typedef) {
         return typedef(alloc, tokens);
     }
-    if stands_word_in_full(tokens, full, Keyword::Extern) {
+    if stands_word_in_full(tokens, dialect, Keyword::Extern) {
         let variable = external(alloc, tokens)?;
         return Ok(Item::External(variable));
     }
-    if stands_word_in_full(tokens, full, Keyword::Volatile) {
+    if stands_word_in_full(tokens, dialect, Keyword::Volatile) {
         let variable = pointer(alloc, tokens)?;
         return Ok(Item::Pointer(variable));
     }
-    declared(alloc, tokens, full)
+    declared(alloc, tokens, dialect)
 }
 
 /// Reads items up to the end.
 pub fn items(
     alloc: Global,
     tokens: &mut Cursor<'_, Placed<Token>>,
-    full: bool,
+    dialect: Dialect,
 ) -> Result<Rows<Item>, ReadFault>
-    ensures { Reads (Each (SpellsItem full)) TheEnd tokens.old tokens.new result }
+    ensures { Reads (Each (SpellsItem dialect)) TheEnd tokens.old tokens.new result }
 {
     let mut all = Rows::new(alloc);
     'all: while tokens.left() > 0 {
-        let next = item(alloc, tokens, full)?;
+        let next = item(alloc, tokens, dialect)?;
         all.push(next)?;
     }
     Ok(all)

@@ -4,12 +4,14 @@ ghost use Rattle.std.specs.Prelude.{◌≡◌, ◌&&◌, Option, Some, IfOk};
 ghost use Rattle.hw_text.specs.declared.placed.Placed.{Placed};
 ghost use Rattle.hw_text.specs.Language.{One};
 ghost use Rattle.hw_text.specs.Reading.{Reads, Anything, ahead, begins};
+ghost use Rattle.c_tree.specs.Dialects.{is_full};
 ghost use Rattle.c_parse.specs.declared.token.Token.{Token};
 ghost use Rattle.c_parse.specs.Values.{mark_of, is_mark};
 ghost use Rattle.c_parse.specs.ExpressionGrammar.{Sign};
 
 use crate::mark::Mark;
 use crate::token::Token;
+use c_tree::Dialect;
 use hw_text::{Cursor, NoMemory, Place, Placed, ReadFault};
 use std::alloc::Global;
 
@@ -87,10 +89,10 @@ pub fn stands(tokens: &Cursor<'_, Placed<Token>>, mark: Mark) -> bool
 }
 
 /// Whether this mark of the full grammar is ahead.
-pub fn stands_in_full(tokens: &Cursor<'_, Placed<Token>>, full: bool, mark: Mark) -> bool
-    ensures { result ≡ (full && begins (is_mark mark) tokens.now) }
+pub fn stands_in_full(tokens: &Cursor<'_, Placed<Token>>, dialect: Dialect, mark: Mark) -> bool
+    ensures { result ≡ (is_full dialect && begins (is_mark mark) tokens.now) }
 {
-    full && stands(tokens, mark)
+    dialect.is_full() && stands(tokens, mark)
 }
 
 /// Reads this mark.

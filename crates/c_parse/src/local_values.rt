@@ -10,7 +10,7 @@ use crate::leaf::{read_one, sign, stands};
 use crate::mark::Mark;
 use crate::terminals::LiteralAt;
 use crate::token::Token;
-use c_tree::{LocalValue, RightSide};
+use c_tree::{Dialect, LocalValue, RightSide};
 use hw_text::{Cursor, Placed, ReadFault};
 use std::alloc::Global;
 
@@ -33,9 +33,9 @@ fn zero_array(
 pub fn local_value(
     alloc: Global,
     tokens: &mut Cursor<'_, Placed<Token>>,
-    full: bool,
+    dialect: Dialect,
 ) -> Result<LocalValue, ReadFault>
-    ensures { Reads (SpellsLocalValue full) RightEnds tokens.old tokens.new result }
+    ensures { Reads (SpellsLocalValue dialect) RightEnds tokens.old tokens.new result }
 {
     if stands(tokens, Mark::OpenBracket) {
         let array = zero_array(alloc, tokens)?;
@@ -46,7 +46,7 @@ pub fn local_value(
         zeros(alloc, tokens)?;
         return Ok(LocalValue::Zero);
     }
-    let value = right_side(alloc, tokens, full)?;
+    let value = right_side(alloc, tokens, dialect)?;
     Ok(LocalValue::Given(value))
 }
 
@@ -54,12 +54,12 @@ pub fn local_value(
 pub fn condition(
     alloc: Global,
     tokens: &mut Cursor<'_, Placed<Token>>,
-    full: bool,
+    dialect: Dialect,
 ) -> Result<RightSide, ReadFault>
-    ensures { Reads (SpellsCondition full) Anything tokens.old tokens.new result }
+    ensures { Reads (SpellsCondition dialect) Anything tokens.old tokens.new result }
 {
     sign(tokens, Mark::OpenParenthesis)?;
-    let condition = right_side(alloc, tokens, full)?;
+    let condition = right_side(alloc, tokens, dialect)?;
     sign(tokens, Mark::CloseParenthesis)?;
     Ok(condition)
 }

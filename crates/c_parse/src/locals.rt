@@ -12,7 +12,7 @@ use crate::mark::Mark;
 use crate::terminals::NameAt;
 use crate::token::Token;
 use crate::types::type_name;
-use c_tree::{Statement, TypeName};
+use c_tree::{Dialect, Statement, TypeName};
 use hw_text::{Cursor, Placed, ReadFault};
 use std::alloc::Global;
 
@@ -33,13 +33,13 @@ pub fn stands_plain_type(tokens: &Cursor<'_, Placed<Token>>) -> bool
 pub fn local_behind(
     alloc: Global,
     tokens: &mut Cursor<'_, Placed<Token>>,
-    full: bool,
+    dialect: Dialect,
     class: TypeName,
 ) -> Result<Statement, ReadFault>
-    ensures { Reads (LocalBehind full class) Anything tokens.old tokens.new result }
+    ensures { Reads (LocalBehind dialect class) Anything tokens.old tokens.new result }
 {
     let name = read_one::<NameAt>(alloc, tokens)?;
-    let value = local_value(alloc, tokens, full)?;
+    let value = local_value(alloc, tokens, dialect)?;
     sign(tokens, Mark::Semicolon)?;
     Ok(Statement::Local { class, name, value })
 }
@@ -48,10 +48,10 @@ pub fn local_behind(
 pub fn local(
     alloc: Global,
     tokens: &mut Cursor<'_, Placed<Token>>,
-    full: bool,
+    dialect: Dialect,
 ) -> Result<Statement, ReadFault>
-    ensures { Reads (SpellsLocal full) Anything tokens.old tokens.new result }
+    ensures { Reads (SpellsLocal dialect) Anything tokens.old tokens.new result }
 {
     let class = type_name(alloc, tokens)?;
-    local_behind(alloc, tokens, full, class)
+    local_behind(alloc, tokens, dialect, class)
 }

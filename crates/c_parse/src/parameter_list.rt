@@ -14,7 +14,7 @@ use crate::terminals::NameAt;
 use crate::token::Token;
 use crate::types::type_name;
 use crate::words::{stands_word, word};
-use c_tree::Parameter;
+use c_tree::{Dialect, Parameter};
 use hw_text::{Cursor, Placed, ReadFault, Rows};
 use std::alloc::Global;
 
@@ -22,12 +22,12 @@ use std::alloc::Global;
 fn parameter(
     alloc: Global,
     tokens: &mut Cursor<'_, Placed<Token>>,
-    full: bool,
+    dialect: Dialect,
 ) -> Result<Parameter, ReadFault>
-    ensures { Reads (SpellsParameter full) Anything tokens.old tokens.new result }
+    ensures { Reads (SpellsParameter dialect) Anything tokens.old tokens.new result }
 {
     let class = type_name(alloc, tokens)?;
-    if stands_in_full(tokens, full, Mark::Star) {
+    if stands_in_full(tokens, dialect, Mark::Star) {
         sign(tokens, Mark::Star)?;
         let name = read_one::<NameAt>(alloc, tokens)?;
         return Ok(Parameter {
@@ -48,12 +48,12 @@ fn parameter(
 fn next_parameter(
     alloc: Global,
     tokens: &mut Cursor<'_, Placed<Token>>,
-    full: bool,
+    dialect: Dialect,
 ) -> Result<Parameter, ReadFault>
-    ensures { Reads (BehindComma (SpellsParameter full)) Anything tokens.old tokens.new result }
+    ensures { Reads (BehindComma (SpellsParameter dialect)) Anything tokens.old tokens.new result }
 {
     sign(tokens, Mark::Comma)?;
-    let next = parameter(alloc, tokens, full)?;
+    let next = parameter(alloc, tokens, dialect)?;
     Ok(next)
 }
 
@@ -61,15 +61,15 @@ fn next_parameter(
 fn more_parameters(
     alloc: Global,
     tokens: &mut Cursor<'_, Placed<Token>>,
-    full: bool,
+    dialect: Dialect,
     first: Parameter,
 ) -> Result<Rows<Parameter>, ReadFault>
-    ensures { Reads (Following first (BehindComma (SpellsParameter full))) (BeginsWithout (is_mark mark.Comma)) tokens.old tokens.new result }
+    ensures { Reads (Following first (BehindComma (SpellsParameter dialect))) (BeginsWithout (is_mark mark.Comma)) tokens.old tokens.new result }
 {
     let mut parameters = Rows::new(alloc);
     parameters.push(first)?;
     'parameters: while stands(tokens, Mark::Comma) {
-        let next = next_parameter(alloc, tokens, full)?;
+        let next = next_parameter(alloc, tokens, dialect)?;
         parameters.push(next)?;
     }
     Ok(parameters)
@@ -79,15 +79,15 @@ fn more_parameters(
 pub fn parameters(
     alloc: Global,
     tokens: &mut Cursor<'_, Placed<Token>>,
-    full: bool,
+    dialect: Dialect,
 ) -> Result<Rows<Parameter>, ReadFault>
-    ensures { Reads (SpellsParameters full) (BeginsWithout (is_mark mark.Comma)) tokens.old tokens.new result }
+    ensures { Reads (SpellsParameters dialect) (BeginsWithout (is_mark mark.Comma)) tokens.old tokens.new result }
 {
     if stands_word(tokens, Keyword::Void) {
         word(tokens, Keyword::Void)?;
         return Ok(Rows::new(alloc));
     }
-    let first = parameter(alloc, tokens, full)?;
-    let parameters = more_parameters(alloc, tokens, full, first)?;
+    let first = parameter(alloc, tokens, dialect)?;
+    let parameters = more_parameters(alloc, tokens, dialect, first)?;
     Ok(parameters)
 }

@@ -15,7 +15,7 @@ use crate::names::stands_name;
 use crate::terminals::NameAt;
 use crate::token::Token;
 use crate::words::{stands_word_in_full, word};
-use c_tree::{Named, Statement, TypeName};
+use c_tree::{Dialect, Named, Statement, TypeName};
 use hw_text::{Cursor, Placed, ReadFault};
 use std::alloc::Global;
 
@@ -23,12 +23,12 @@ use std::alloc::Global;
 fn call_alone_behind(
     alloc: Global,
     tokens: &mut Cursor<'_, Placed<Token>>,
-    full: bool,
+    dialect: Dialect,
     name: Named,
 ) -> Result<Statement, ReadFault>
-    ensures { Reads (SpellsCallAlone full) Anything (name_token name ∷ tokens.old) tokens.new result }
+    ensures { Reads (SpellsCallAlone dialect) Anything (name_token name ∷ tokens.old) tokens.new result }
 {
-    let call = call_behind(alloc, tokens, full, name)?;
+    let call = call_behind(alloc, tokens, dialect, name)?;
     sign(tokens, Mark::Semicolon)?;
     Ok(Statement::Call(call))
 }
@@ -46,37 +46,37 @@ fn break_alone(tokens: &mut Cursor<'_, Placed<Token>>) -> Result<Statement, Read
 fn named(
     alloc: Global,
     tokens: &mut Cursor<'_, Placed<Token>>,
-    full: bool,
+    dialect: Dialect,
 ) -> Result<Statement, ReadFault>
     requires { begins is_name tokens.old ≡ true }
-    ensures { Reads (SpellsPlain full) Anything tokens.old tokens.new result }
+    ensures { Reads (SpellsPlain dialect) Anything tokens.old tokens.new result }
 {
     let name = read_one::<NameAt>(alloc, tokens)?;
     if stands_name(tokens) {
-        return local_behind(alloc, tokens, full, TypeName::Defined(name));
+        return local_behind(alloc, tokens, dialect, TypeName::Defined(name));
     }
     if stands(tokens, Mark::OpenParenthesis) {
-        return call_alone_behind(alloc, tokens, full, name);
+        return call_alone_behind(alloc, tokens, dialect, name);
     }
-    assignment_behind(alloc, tokens, full, name)
+    assignment_behind(alloc, tokens, dialect, name)
 }
 
 /// Reads a statement without a block.
 pub fn plain(
     alloc: Global,
     tokens: &mut Cursor<'_, Placed<Token>>,
-    full: bool,
+    dialect: Dialect,
 ) -> Result<Statement, ReadFault>
-    ensures { Reads (SpellsPlain full) Anything tokens.old tokens.new result }
+    ensures { Reads (SpellsPlain dialect) Anything tokens.old tokens.new result }
 {
     if stands_name(tokens) {
-        return named(alloc, tokens, full);
+        return named(alloc, tokens, dialect);
     }
     if stands_plain_type(tokens) {
-        return local(alloc, tokens, full);
+        return local(alloc, tokens, dialect);
     }
-    if stands_word_in_full(tokens, full, Keyword::Break) {
+    if stands_word_in_full(tokens, dialect, Keyword::Break) {
         return break_alone(tokens);
     }
-    assignment(alloc, tokens, full)
+    assignment(alloc, tokens, dialect)
 }

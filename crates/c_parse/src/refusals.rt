@@ -7,6 +7,7 @@ use crate::keyword::Keyword;
 use crate::links::LINKS;
 use crate::token::Token;
 use crate::words::keyword_of;
+use c_tree::Dialect;
 use hw_text::{Code, Lexed, NoMemory, Place, Placed, Refusal, TextBuf};
 use std::alloc::Global;
 
@@ -24,12 +25,14 @@ pub fn too_long(alloc: Global, bytes: usize) -> Result<Refusal, NoMemory>
 pub fn unexpected_at(
     alloc: Global,
     lexed: &Lexed<'_, Token>,
-    full: bool,
+    dialect: Dialect,
     passed: usize,
 ) -> Result<Refusal, NoMemory>
-    ensures { IfOk result (λ r. r ≡ unexpected_at full lexed.now.tokens lexed.now.end lexed.now.rest.now passed) }
+    ensures { IfOk result (λ r. r ≡ unexpected_at dialect lexed.now.tokens lexed.now.end lexed.now.rest.now passed) }
 {
-    if !full && let Some(place) = link_behind(lexed.tokens.rows(), passed) {
+    if !dialect.is_full()
+        && let Some(place) = link_behind(lexed.tokens.rows(), passed)
+    {
         return limit(alloc, "nesting", place, LINKS + 1, LINKS);
     }
     unexpected_there(alloc, lexed, passed)

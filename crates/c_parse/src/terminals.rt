@@ -1,12 +1,14 @@
 //! The tokens that have values.
 
-ghost use Rattle.std.specs.Prelude.{◌≡◌, [], ◌∷◌, codes, refl, true, Some};
+ghost use Rattle.std.specs.Prelude.{◌≡◌, [], ◌∷◌, refl, true, Some};
 ghost use Rattle.c_tree.specs.declared.integer_type.IntegerType.TheVariants.{I8};
 ghost use Rattle.c_tree.specs.declared.operator.UnaryOperator.TheVariants as unary;
 ghost use Rattle.c_parse.specs.declared.keyword.Keyword.TheVariants as keyword;
 ghost use Rattle.c_parse.specs.declared.mark.Mark.TheVariants as mark;
 ghost use Rattle.c_parse.specs.declared.token.Token.TheVariants as token;
 ghost use Rattle.c_parse.specs.Tokens.{start};
+ghost use Rattle.c_tree.specs.Spellings.{zero};
+ghost use Rattle.c_parse.specs.Samples.{letter_a};
 ghost use Rattle.c_parse.specs.Values.{name_of, literal_of, integer_of, truth_of, zero_of};
 ghost use Rattle.c_parse.specs.Operators.{unary_of};
 
@@ -36,7 +38,7 @@ impl Terminal for NameAt {
         }
     }
 
-    ghost sample = { (record { token = token.Name (codes "a"); place = start }, record { name = codes "a"; place = start }, refl) };
+    ghost sample = { (record { token = token.Name letter_a; place = start }, record { name = letter_a; place = start }, refl) };
 }
 
 /// A literal, and where it stands.
@@ -57,7 +59,7 @@ impl Terminal for LiteralAt {
         }
     }
 
-    ghost sample = { (record { token = token.Literal (codes "0"); place = start }, record { numeral = codes "0"; place = start }, refl) };
+    ghost sample = { (record { token = token.Literal zero; place = start }, record { numeral = zero; place = start }, refl) };
 }
 
 /// The literal that is spelled `0`.
@@ -75,7 +77,7 @@ impl Terminal for ZeroAt {
         }
     }
 
-    ghost sample = { (record { token = token.Literal (codes "0"); place = start }, start, refl) };
+    ghost sample = { (record { token = token.Literal zero; place = start }, start, refl) };
 }
 
 /// An integer type, and where it stands.

@@ -7,7 +7,7 @@ ghost use Rattle.c_parse.specs.UnitGrammar.{SpellsUnit};
 
 use crate::items::items;
 use crate::token::Token;
-use c_tree::Unit;
+use c_tree::{Dialect, Unit};
 use hw_text::{Cursor, NoMemory, Place, Placed, ReadFault, Whole};
 use std::alloc::Global;
 
@@ -15,12 +15,12 @@ use std::alloc::Global;
 fn unit(
     alloc: Global,
     tokens: &mut Cursor<'_, Placed<Token>>,
-    full: bool,
+    dialect: Dialect,
     end: Place,
 ) -> Result<Unit, ReadFault>
-    ensures { Reads (SpellsUnit full end) TheEnd tokens.old tokens.new result }
+    ensures { Reads (SpellsUnit dialect end) TheEnd tokens.old tokens.new result }
 {
-    let items = items(alloc, tokens, full)?;
+    let items = items(alloc, tokens, dialect)?;
     Ok(Unit { items, end })
 }
 
@@ -28,13 +28,13 @@ fn unit(
 pub fn read_whole(
     alloc: Global,
     tokens: &[Placed<Token>],
-    full: bool,
+    dialect: Dialect,
     end: Place,
 ) -> Result<Whole<Unit>, NoMemory>
-    ensures { IfOk result (λ whole. IsWhole (SpellsUnit full end) tokens.now whole) }
+    ensures { IfOk result (λ whole. IsWhole (SpellsUnit dialect end) tokens.now whole) }
 {
     let mut cursor = Cursor::new(tokens);
-    match unit(alloc, &mut cursor, full, end) {
+    match unit(alloc, &mut cursor, dialect, end) {
         Ok(value) => {
             if cursor.left() == 0 {
                 Ok(Whole::Text(value))

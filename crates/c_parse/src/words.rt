@@ -2,11 +2,13 @@
 
 ghost use Rattle.std.specs.Prelude.{◌≡◌, ◌&&◌};
 ghost use Rattle.hw_text.specs.Reading.{Reads, Anything, ahead, begins};
+ghost use Rattle.c_tree.specs.Dialects.{is_full};
 ghost use Rattle.c_parse.specs.Values.{keyword_of, is_word};
 ghost use Rattle.c_parse.specs.CallGrammar.{Word};
 
 use crate::keyword::Keyword;
 use crate::token::Token;
+use c_tree::Dialect;
 use hw_text::{Cursor, Place, Placed, ReadFault};
 
 /// Where the token stands, if it is this word.
@@ -42,10 +44,14 @@ pub fn stands_word(tokens: &Cursor<'_, Placed<Token>>, word: Keyword) -> bool
 }
 
 /// Whether this word of the full grammar is ahead.
-pub fn stands_word_in_full(tokens: &Cursor<'_, Placed<Token>>, full: bool, word: Keyword) -> bool
-    ensures { result ≡ (full && begins (is_word word) tokens.now) }
+pub fn stands_word_in_full(
+    tokens: &Cursor<'_, Placed<Token>>,
+    dialect: Dialect,
+    word: Keyword,
+) -> bool
+    ensures { result ≡ (is_full dialect && begins (is_word word) tokens.now) }
 {
-    full && stands_word(tokens, word)
+    dialect.is_full() && stands_word(tokens, word)
 }
 
 /// Reads this word.

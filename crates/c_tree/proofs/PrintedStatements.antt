@@ -1,16 +1,12 @@
 -- What is printed of statements with blocks.
-use Rattle.std.proofs.Common.{◌≡◌, ℕ, Bool, true, ◌&&◌, List, ◌++◌, map, Result, Ok, Err, refl, sym, ap, ◌∙◌, append_assoc}
+use Rattle.std.proofs.Common.{◌≡◌, ℕ, List, ◌++◌, map, Result, Ok, Err, sym, ap, ◌∙◌, append_assoc}
 use Rattle.std.specs.Prelude.{OnOk}
-use Rattle.std.specs.List.{list_all}
 use Rattle.hw_text.specs.declared.no_memory.NoMemory.{NoMemory}
 use Rattle.hw_text.specs.declared.place.Place.{Place}
-use Rattle.c_tree.specs.Spelled.{spelled_otherwise_step, spelled_statement_step, spelled_branch_step, is_spelled_statement, is_spelled_branch, is_spelled_otherwise}
 use Rattle.c_tree.specs.Statements.{Lines, block_text, count_text, forever_text, otherwise_step, statement_step, branch_step, statement_text}
 use Rattle.c_tree.specs.declared.integer_type.IntegerType.{IntegerType}
 use Rattle.c_tree.specs.declared.named.Named.{Named}
 use Rattle.c_tree.specs.declared.named.SignedLiteral.{SignedLiteral}
-use Rattle.c_tree.specs.declared.statement.Branch.{Branch}
-use Rattle.c_tree.specs.declared.statement.Otherwise.{Otherwise}
 use Rattle.c_tree.specs.declared.statement.Otherwise.TheFolds.{fold-roll-Statement}
 use Rattle.c_tree.specs.declared.statement.Otherwise.TheOpen as opened
 use Rattle.c_tree.specs.declared.statement.Statement.{Statement}
@@ -19,18 +15,6 @@ use Rattle.c_tree.specs.declared.statement.Statement.TheVariants as statement
 on-ok : (r : Result (Unit {0}) NoMemory) (P Q : Type 0) → (P → Q) → OnOk r P → OnOk r Q
 on-ok (Ok u) P Q make p = make p
 on-ok (Err e) P Q make p = p
-
-three-true : (a b c : Bool) → a ≡ true → b ≡ true → c ≡ true → (a && (b && c)) ≡ true
-three-true a b c e f g = rw (e, f, g) refl
-
--- a choice is spelled as its parts are
-pub choice-spelled : (r : Result (Unit {0}) NoMemory) (x : Statement) (first : Branch) (others rows : List Branch) (o : Otherwise) → x ≡ statement.If first others o → is_spelled_branch first ≡ true → rows ≡ others → list_all (λ b. b) (map is_spelled_branch rows) ≡ true → OnOk r (is_spelled_otherwise o ≡ true) → OnOk r (is_spelled_statement x ≡ true)
-choice-spelled r x first others rows o is begun same each ended =
-    on-ok r (is_spelled_otherwise o ≡ true) (is_spelled_statement x ≡ true)
-    (λ e. ap is_spelled_statement (is ∙ sym (statement.rolls-If first others o)) ∙
-    fold-roll-Statement Bool Bool Bool spelled_otherwise_step spelled_statement_step spelled_branch_step (opened.If first others o) ∙
-    three-true (is_spelled_branch first) (list_all (λ b. b) (map is_spelled_branch others)) (is_spelled_otherwise o) begun
-    (ap (λ (bs : List Branch). list_all (λ b. b) (map is_spelled_branch bs)) (sym same) ∙ each) e) ended
 
 text-of : (x : Statement) (margin head : List ℕ) (body rows : List Statement) (old mid new : List ℕ) → statement_text x margin ≡ head ++ block_text (map statement_text body) margin → mid ≡ old ++ head → rows ≡ body → new ≡ mid ++ block_text (map statement_text rows) margin → new ≡ old ++ statement_text x margin
 text-of x margin head body rows old mid new is begun same ended =

@@ -52,12 +52,12 @@ position_behind Not = Operand
 position_behind Complement = Operand
 
 abbrev pub base_text : Base → List ℕ
-base_text (base.Variable x) = x.name
-base_text (base.Pointed at x) = codes "(*" ++ x.name ++ codes ")"
-base_text (base.Member x m) = x.name ++ codes "->" ++ m.name
+base_text (base.Variable x) = x.name.bytes
+base_text (base.Pointed at x) = codes "(*" ++ x.name.bytes ++ codes ")"
+base_text (base.Member x m) = x.name.bytes ++ codes "->" ++ m.name.bytes
 
 abbrev pub expression_step : Expression-F Text (List ℕ) (List ℕ) → Text
-expression_step (e.Number start l) position = l.numeral
+expression_step (e.Number start l) position = l.numeral.bytes
 expression_step (e.Truth start b) position = truth_text b
 expression_step (e.Value start l) position = l
 expression_step (e.Unary start operator at x) position = unary_sign operator position ++ x (position_behind operator)
@@ -66,7 +66,7 @@ expression_step (e.Binary start operator at l r) position =
     opening position ++ l Operand ++ codes " " ++ binary_text operator ++ codes " " ++ r Operand ++ closing position
 
 abbrev pub selector_step : Selector-F Text (List ℕ) (List ℕ) → List ℕ
-selector_step (e.Member x) = codes "." ++ x.name
+selector_step (e.Member x) = codes "." ++ x.name.bytes
 selector_step (e.Index x) = codes "[" ++ x Whole ++ codes "]"
 
 abbrev pub lvalue_step : Lvalue-F Text (List ℕ) (List ℕ) → List ℕ
@@ -82,11 +82,11 @@ abbrev pub lvalue_text : Lvalue → List ℕ
 lvalue_text x = fold-Lvalue Text (List ℕ) (List ℕ) expression_step selector_step lvalue_step x
 
 abbrev pub argument_text : Argument → List ℕ
-argument_text (argument.Address at x) = codes "&" ++ x.name
+argument_text (argument.Address at x) = codes "&" ++ x.name.bytes
 argument_text (argument.Value x) = expression_text x Whole
 
 abbrev pub call_text : Call → List ℕ
-call_text c = c.name.name ++ codes "(" ++ with_commas (map argument_text c.arguments) ++ codes ")"
+call_text c = c.name.name.bytes ++ codes "(" ++ with_commas (map argument_text c.arguments) ++ codes ")"
 
 abbrev pub right_text : RightSide → List ℕ
 right_text (right.Call c) = call_text c

@@ -23,13 +23,13 @@ use Rattle.c_tree.specs.Expressions.{right_text}
 use Rattle.c_tree.specs.Statements.{line, all_lines, statement_text}
 
 abbrev pub name_text : Named → List ℕ
-name_text x = x.name
+name_text x = x.name.bytes
 
 unfoldable pub enumeration_opening : List ℕ
 enumeration_opening = codes "typedef enum { "
 
 abbrev pub enumeration_text : Enumeration → List ℕ
-enumeration_text e = line [] (enumeration_opening ++ with_commas (map name_text (e.first ∷ e.others)) ++ codes " } " ++ e.name.name ++ codes ";")
+enumeration_text e = line [] (enumeration_opening ++ with_commas (map name_text (e.first ∷ e.others)) ++ codes " } " ++ e.name.name.bytes ++ codes ";")
 
 -- what a struct has, on one line
 abbrev pub member_text : Member → List ℕ
@@ -39,7 +39,7 @@ unfoldable pub structure_opening : List ℕ
 structure_opening = codes "typedef struct { "
 
 abbrev pub structure_text : Structure → List ℕ
-structure_text s = line [] (structure_opening ++ flat_map member_text (s.first ∷ s.others) ++ codes "} " ++ s.name.name ++ codes ";")
+structure_text s = line [] (structure_opening ++ flat_map member_text (s.first ∷ s.others) ++ codes "} " ++ s.name.name.bytes ++ codes ";")
 
 abbrev pub static_text : Bool → List ℕ
 static_text b = if b then codes "static " else []
@@ -49,7 +49,7 @@ initial_text None = []
 initial_text (Some initial.Zero) = codes " = {0}"
 initial_text (Some (initial.Number l)) = codes " = " ++ signed_text l
 initial_text (Some (initial.Truth at b)) = codes " = " ++ truth_text b
-initial_text (Some (initial.Enumerator x)) = codes " = " ++ x.name
+initial_text (Some (initial.Enumerator x)) = codes " = " ++ x.name.bytes
 
 abbrev pub variable_text : Variable → List ℕ
 variable_text v =
@@ -59,10 +59,10 @@ abbrev pub external_text : External → List ℕ
 external_text x = line [] (codes "extern " ++ declared_text x.class x.name x.length ++ codes ";")
 
 abbrev pub pointer_text : Pointer → List ℕ
-pointer_text p = line [] (codes "volatile " ++ p.class.name ++ codes " *" ++ p.name.name ++ codes ";")
+pointer_text p = line [] (codes "volatile " ++ p.class.name.bytes ++ codes " *" ++ p.name.name.bytes ++ codes ";")
 
 abbrev pub parameter_text : Parameter → List ℕ
-parameter_text p = type_text p.class ++ (if p.is_pointer then codes " *" else codes " ") ++ p.name.name
+parameter_text p = type_text p.class ++ (if p.is_pointer then codes " *" else codes " ") ++ p.name.name.bytes
 
 abbrev pub parameters_text : List Parameter → List ℕ
 parameters_text [] = codes "void"
@@ -73,7 +73,7 @@ result_text None = codes "void"
 result_text (Some class) = type_text class
 
 abbrev pub signature_text : Named → List Parameter → List ℕ
-signature_text x parameters = codes " " ++ x.name ++ codes "(" ++ parameters_text parameters ++ codes ")"
+signature_text x parameters = codes " " ++ x.name.bytes ++ codes "(" ++ parameters_text parameters ++ codes ")"
 
 abbrev pub prototype_text : Prototype → List ℕ
 prototype_text p = line [] (static_text p.is_static ++ result_text p.class ++ signature_text p.name p.parameters ++ codes ";")

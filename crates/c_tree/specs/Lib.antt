@@ -1,10 +1,13 @@
+pub mod Decimals
+pub mod Dialects
 pub mod Expressions
 pub mod Items
+pub mod Literals
 pub mod Numerals
 pub mod Operators
 pub mod Printing
-pub mod Spelled
-pub mod SpelledUnits
+pub mod Spellings
+pub mod Starts
 pub mod Statements
 pub mod Types
 pub mod Unplaced

@@ -80,5 +80,5 @@ is_empty [] = true
 is_empty (b ∷ bs) = false
 
 -- spelled as a literal, with a value that one of its types holds
-abbrev pub is_numeral : List ℕ → Bool
+unfoldable pub is_numeral : List ℕ → Bool
 is_numeral bs = begins_in Digit bs && (is_empty (past_numeral bs) && is_some (numeral_type bs))

@@ -11,22 +11,22 @@ use Rattle.c_tree.specs.Types.{integer_text}
 abbrev pub type_text : TypeName → List ℕ
 type_text (Integer at class) = integer_text class
 type_text (Truth at) = codes "bool"
-type_text (Defined x) = x.name
+type_text (Defined x) = x.name.bytes
 
 abbrev pub truth_text : Bool → List ℕ
 truth_text b = if b then codes "true" else codes "false"
 
 abbrev pub signed_text : SignedLiteral → List ℕ
-signed_text l = (if l.negative then codes "-" else []) ++ l.literal.numeral
+signed_text l = (if l.negative then codes "-" else []) ++ l.literal.numeral.bytes
 
 -- the length of an array, where it is one
 abbrev pub length_text : Option Literal → List ℕ
 length_text None = []
-length_text (Some l) = codes "[" ++ l.numeral ++ codes "]"
+length_text (Some l) = codes "[" ++ l.numeral.bytes ++ codes "]"
 
 -- a type, a name, and the length of an array
 abbrev pub declared_text : TypeName → Named → Option Literal → List ℕ
-declared_text class x length = type_text class ++ codes " " ++ x.name ++ length_text length
+declared_text class x length = type_text class ++ codes " " ++ x.name.bytes ++ length_text length
 
 abbrev pub behind_comma : List ℕ → List ℕ
 behind_comma text = codes ", " ++ text

@@ -37,16 +37,16 @@ abbrev pub block_text : List Lines → Lines
 block_text body margin = codes " {" ++ 10 ∷ [] ++ all_lines body (deeper margin) ++ margin ++ codes "}"
 
 abbrev pub local_text : LocalValue → List ℕ
-local_text (local.ZeroArray length) = codes "[" ++ length.numeral ++ codes "] = {0}"
+local_text (local.ZeroArray length) = codes "[" ++ length.numeral.bytes ++ codes "] = {0}"
 local_text local.Zero = codes " = {0}"
 local_text (local.Given value) = codes " = " ++ right_text value
 
 -- the head of a loop over numbers: where it begins, and where it ends
 abbrev pub count_start_text : IntegerType → Named → SignedLiteral → List ℕ
-count_start_text class x from = codes "for (" ++ integer_text class ++ codes " " ++ x.name ++ codes " = " ++ signed_text from ++ codes "; "
+count_start_text class x from = codes "for (" ++ integer_text class ++ codes " " ++ x.name.bytes ++ codes " = " ++ signed_text from ++ codes "; "
 
 abbrev pub count_end_text : Named → SignedLiteral → List ℕ
-count_end_text x below = x.name ++ codes " < " ++ signed_text below ++ codes "; " ++ x.name ++ codes "++)"
+count_end_text x below = x.name.bytes ++ codes " < " ++ signed_text below ++ codes "; " ++ x.name.bytes ++ codes "++)"
 
 abbrev pub count_text : IntegerType → Named → SignedLiteral → SignedLiteral → List ℕ
 count_text class x from below = count_start_text class x from ++ count_end_text x below
@@ -66,7 +66,7 @@ abbrev pub branch_step : Branch-F Lines Lines Lines → Lines
 branch_step b margin = codes "if (" ++ right_text b.condition ++ codes ")" ++ block_text b.body margin
 
 abbrev pub statement_step : Statement-F Lines Lines Lines → Lines
-statement_step (s.Local class x value) margin = type_text class ++ codes " " ++ x.name ++ local_text value ++ codes ";"
+statement_step (s.Local class x value) margin = type_text class ++ codes " " ++ x.name.bytes ++ local_text value ++ codes ";"
 statement_step (s.Assign target value) margin = lvalue_text target ++ codes " = " ++ right_text value ++ codes ";"
 statement_step (s.Call c) margin = call_text c ++ codes ";"
 statement_step (s.If first others otherwise) margin = first margin ++ flat_map (else_text margin) others ++ otherwise margin

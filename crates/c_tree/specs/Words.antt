@@ -32,5 +32,5 @@ is_spelled_as_name [] = false
 is_spelled_as_name (b ∷ bs) = begins_name b && list_all continues_name bs
 
 -- spelled as a name, and no word
-abbrev pub is_identifier : List ℕ → Bool
+unfoldable pub is_identifier : List ℕ → Bool
 is_identifier bs = is_spelled_as_name bs && not (is_word bs)

@@ -1,67 +1,81 @@
 //! Integer literals.
 
-ghost use Rattle.std.specs.Prelude.{◌≡◌, true, false, Some, IfOk, IfNone, SomeIff};
-ghost use Rattle.c_tree.specs.Numerals.{is_numeral, numeral_value, numeral_type};
+ghost use Rattle.std.specs.Prelude.{◌≡◌, true};
+ghost use Rattle.c_tree.specs.Numerals.{is_numeral};
 
+use crate::decimal::decimal_text;
 use crate::integer_type::IntegerType;
-use crate::numeral_text::read_numeral;
+use crate::numeral_text::{is_numeral, meaning};
 use hw_text::{ByteList, NoMemory};
 use std::alloc::Global;
-use std::marker::Model;
 
-/// An integer literal as it is written. Contracts see its bytes.
+/// An integer literal as it is written.
 #[derive(Debug, Drop)]
 pub struct Numeral {
-    spelling: ByteList,
-    value: u64,
-    class: IntegerType,
+    pub bytes: ByteList,
+    pub ghost spelled: { is_numeral bytes ≡ true },
 }
 
-impl Model for Numeral {
-    ghost use Rattle.std.specs.Prelude.{◌≡◌, List, ℕ, true, Some};
-    ghost use Rattle.c_tree.specs.Numerals.{is_numeral, numeral_value, numeral_type};
-
-    ghost Value = { List ℕ };
-
-    ghost view = { λ n. n.spelling };
-
-    ghost invariant = { λ n. (is_numeral n.spelling ≡ true) × (n.value ≡ numeral_value n.spelling) × (numeral_type n.spelling ≡ Some n.class) };
-}
-
+#[tactic(auto, using(crate::proofs::Spellings::no_numeral, crate::proofs::Spellings::numeral_of_bytes))]
 impl Numeral {
+    ghost use Rattle.std.specs.Prelude.{◌≡◌, ◌<◌, ◌^◌, true, Some, IfOk};
+    ghost use Rattle.c_tree.specs.Numerals.{is_numeral, numeral_value, numeral_type};
+    ghost use Rattle.c_tree.specs.Spellings.{numeral_of};
+    ghost use Rattle.c_tree.specs.Decimals.{decimal_text};
+
     /// The literal that the bytes spell, where they spell one that a type holds.
     pub fn read(alloc: Global, bytes: &[u8]) -> Result<Option<Numeral>, NoMemory>
-        ensures found { IfOk result (λ found. SomeIff found (is_numeral bytes.now ≡ true) bytes.now) }
-        ensures none { IfOk result (λ found. IfNone found (is_numeral bytes.now ≡ false)) }
+        ensures { IfOk result (λ found. found ≡ numeral_of bytes.now) }
     {
-        let Some((value, class)) = read_numeral(bytes) else {
+        if !is_numeral(bytes) {
             return Ok(None);
-        };
-        Ok(Some(Numeral {
-            spelling: ByteList::of(alloc, bytes)?,
-            value,
-            class,
-        }))
+        }
+        let literal = Numeral::of(alloc, bytes)?;
+        Ok(Some(literal))
+    }
+
+    /// The literal that the bytes are.
+    pub fn of(alloc: Global, bytes: &[u8]) -> Result<Numeral, NoMemory>
+        requires { is_numeral bytes.now ≡ true }
+        ensures { IfOk result (λ literal. literal.bytes ≡ bytes.now) }
+    {
+        Ok(Numeral {
+            bytes: ByteList::of(alloc, bytes)?,
+        })
+    }
+
+    /// The literal of a number in base ten.
+    pub fn decimal(alloc: Global, number: u64) -> Result<Numeral, NoMemory>
+        ensures exact { IfOk result (λ literal. literal.bytes ≡ decimal_text number) }
+        ensures value { IfOk result (λ literal. numeral_value literal.bytes ≡ number) }
+    {
+        let text = decimal_text(alloc, number)?;
+        Numeral::of(alloc, text.rows())
     }
 
     pub fn rows(&self) -> &[u8]
-        ensures bytes { result.now ≡ self.now }
-        ensures numeral { is_numeral self.now ≡ true }
+        ensures { result.now ≡ self.now.bytes }
     {
-        self.spelling.rows()
+        self.bytes.rows()
     }
 
     pub fn value(&self) -> u64
-        ensures { result ≡ numeral_value self.now }
+        ensures { result ≡ numeral_value self.now.bytes }
     {
-        self.value
+        match meaning(self.bytes.rows()) {
+            Some((value, _)) => value,
+            None => unreachable!(),
+        }
     }
 
     /// Its type, before it meets another operand.
     pub fn class(&self) -> IntegerType
-        ensures { numeral_type self.now ≡ Some result }
+        ensures { numeral_type self.now.bytes ≡ Some result }
     {
-        self.class
+        match meaning(self.bytes.rows()) {
+            Some((_, class)) => class,
+            None => unreachable!(),
+        }
     }
 
     /// An equal literal.
@@ -69,9 +83,7 @@ impl Numeral {
         ensures { IfOk result (λ copy. copy ≡ self.now) }
     {
         Ok(Numeral {
-            spelling: self.spelling.copy()?,
-            value: self.value,
-            class: self.class,
+            bytes: self.bytes.copy()?,
         })
     }
 }

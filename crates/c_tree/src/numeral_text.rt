@@ -1,7 +1,6 @@
 //! What integer literals say.
 
-ghost use Rattle.std.specs.Prelude.{◌≡◌, ◌<◌, ◌≤◌, ◌^◌, ◌+◌, ◌*◌, ℕ, true, false, length, drop, Some, SomeIff, IfSome, IfNone, MatchOption};
-ghost use Rattle.std.specs.Option.{option_map};
+ghost use Rattle.std.specs.Prelude.{◌≡◌, ◌<◌, ◌≤◌, ◌^◌, ◌+◌, ◌*◌, ℕ, true, false, length, drop, Some, None, SomeIff, IfSome, IfNone, MatchOption};
 ghost use Rattle.c_tree.specs.Numerals.{is_in, begins_hex, past_digits, past_numeral, base, digit_value, number_from, numeral_value, candidates, first_holding, numeral_type, is_numeral};
 
 use crate::byte_class::{ByteClass, digit_value};
@@ -125,9 +124,9 @@ fn first_holding(number: u64, types: &[IntegerType]) -> Option<IntegerType>
 }
 
 /// The value and the type of a literal, where one of its types holds it.
-fn meaning(bytes: &[u8]) -> Option<(u64, IntegerType)>
-    ensures value { IfSome result (λ r. r.0 ≡ numeral_value bytes.now) }
-    ensures class { option_map (λ r. r.1) result ≡ numeral_type bytes.now }
+pub fn meaning(bytes: &[u8]) -> Option<(u64, IntegerType)>
+    ensures some { IfSome result (λ r. (r.0 ≡ numeral_value bytes.now) × (numeral_type bytes.now ≡ Some r.1)) }
+    ensures none { IfNone result (numeral_type bytes.now ≡ None) }
 {
     let value = numeral_value(bytes)?;
     let hex = hex_digits(bytes).is_some();
@@ -138,13 +137,10 @@ fn meaning(bytes: &[u8]) -> Option<(u64, IntegerType)>
     Some((value, class))
 }
 
-/// The value and the type of the literal that the bytes spell, where they spell one.
-pub fn read_numeral(bytes: &[u8]) -> Option<(u64, IntegerType)>
-    ensures some { IfSome result (λ r. (is_numeral bytes.now ≡ true) × (r.0 ≡ numeral_value bytes.now) × (numeral_type bytes.now ≡ Some r.1)) }
-    ensures none { IfNone result (is_numeral bytes.now ≡ false) }
+/// Whether the bytes are a literal that a type holds.
+#[tactic(auto, unfolding(crate::specs::Numerals::is_numeral))]
+pub fn is_numeral(bytes: &[u8]) -> bool
+    ensures { result ≡ is_numeral bytes.now }
 {
-    if !ByteClass::Digit.begins(bytes) || past_numeral(bytes).len() > 0 {
-        return None;
-    }
-    meaning(bytes)
+    ByteClass::Digit.begins(bytes) && past_numeral(bytes).is_empty() && meaning(bytes).is_some()
 }

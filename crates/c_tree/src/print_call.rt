@@ -1,7 +1,6 @@
 //! Printing calls.
 
 ghost use Rattle.std.specs.Prelude.{◌≡◌, ◌++◌, map, OnOk, true};
-ghost use Rattle.c_tree.specs.Spelled.{is_spelled_argument, is_spelled_call, is_spelled_right};
 ghost use Rattle.std.specs.List.{flat_map, list_all};
 ghost use Rattle.c_tree.specs.Printing.{behind_comma, with_commas};
 ghost use Rattle.c_tree.specs.Expressions.{argument_text, call_text, right_text};
@@ -12,8 +11,7 @@ use hw_text::{NoMemory, TextBuf};
 
 impl RightSide {
     pub fn print(&self, out: &mut TextBuf) -> Result<(), NoMemory>
-        ensures text { OnOk result (out.new ≡ out.old ++ right_text self.now) }
-        ensures spelled { OnOk result (is_spelled_right self.now ≡ true) }
+        ensures { OnOk result (out.new ≡ out.old ++ right_text self.now) }
     {
         match self {
             RightSide::Call(call) => call.print(out),
@@ -24,8 +22,7 @@ impl RightSide {
 
 impl Call {
     pub fn print(&self, out: &mut TextBuf) -> Result<(), NoMemory>
-        ensures text { OnOk result (out.new ≡ out.old ++ call_text self.now) }
-        ensures spelled { OnOk result (is_spelled_call self.now ≡ true) }
+        ensures { OnOk result (out.new ≡ out.old ++ call_text self.now) }
     {
         out.word(self.name.name.rows())?;
         out.word(b"(")?;
@@ -35,8 +32,7 @@ impl Call {
 }
 
 fn print_arguments(out: &mut TextBuf, arguments: &[Argument]) -> Result<(), NoMemory>
-    ensures text { OnOk result (out.new ≡ out.old ++ with_commas (map argument_text arguments.now)) }
-    ensures spelled { OnOk result (list_all is_spelled_argument arguments.now ≡ true) }
+    ensures { OnOk result (out.new ≡ out.old ++ with_commas (map argument_text arguments.now)) }
 {
     let Some((first, others)) = arguments.split_first() else {
         return Ok(());
@@ -51,8 +47,7 @@ fn print_arguments(out: &mut TextBuf, arguments: &[Argument]) -> Result<(), NoMe
 
 impl Argument {
     fn print(&self, out: &mut TextBuf) -> Result<(), NoMemory>
-        ensures text { OnOk result (out.new ≡ out.old ++ argument_text self.now) }
-        ensures spelled { OnOk result (is_spelled_argument self.now ≡ true) }
+        ensures { OnOk result (out.new ≡ out.old ++ argument_text self.now) }
     {
         match self {
             Argument::Address(_, named) => {

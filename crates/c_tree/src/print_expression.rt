@@ -1,7 +1,6 @@
 //! Printing expressions.
 
 ghost use Rattle.std.specs.Prelude.{◌≡◌, ◌++◌, map, OnOk, true};
-ghost use Rattle.c_tree.specs.Spelled.{is_spelled_base, is_spelled_expression, is_spelled_lvalue, is_spelled_part};
 ghost use Rattle.std.specs.List.{flat_map};
 ghost use Rattle.c_tree.specs.Expressions.{opening, closing, unary_sign, position_behind, base_text, expression_text, selector_text, lvalue_text};
 
@@ -22,8 +21,7 @@ pub enum Position {
 impl Expression {
     #[cycle(printer)]
     pub fn print(&self, out: &mut TextBuf, position: Position) -> Result<(), NoMemory>
-        ensures text { OnOk result (out.new ≡ out.old ++ expression_text self.now position) }
-        ensures spelled { OnOk result (is_spelled_expression self.now ≡ true) }
+        ensures { OnOk result (out.new ≡ out.old ++ expression_text self.now position) }
     {
         match self {
             Expression::Number { literal, .. } => out.word(literal.numeral.rows()),
@@ -68,8 +66,7 @@ impl Expression {
 impl Lvalue {
     #[cycle(printer)]
     pub fn print(&self, out: &mut TextBuf) -> Result<(), NoMemory>
-        ensures text { OnOk result (out.new ≡ out.old ++ lvalue_text self.now) }
-        ensures spelled { OnOk result (is_spelled_lvalue self.now ≡ true) }
+        ensures { OnOk result (out.new ≡ out.old ++ lvalue_text self.now) }
     {
         self.base.print(out)?;
         for part in self.parts.rows() {
@@ -82,8 +79,7 @@ impl Lvalue {
 impl Selector {
     #[cycle(printer)]
     fn print(&self, out: &mut TextBuf) -> Result<(), NoMemory>
-        ensures text { OnOk result (out.new ≡ out.old ++ selector_text self.now) }
-        ensures spelled { OnOk result (is_spelled_part self.now ≡ true) }
+        ensures { OnOk result (out.new ≡ out.old ++ selector_text self.now) }
     {
         match self {
             Selector::Member(named) => {
@@ -101,8 +97,7 @@ impl Selector {
 
 impl Base {
     fn print(&self, out: &mut TextBuf) -> Result<(), NoMemory>
-        ensures text { OnOk result (out.new ≡ out.old ++ base_text self.now) }
-        ensures spelled { OnOk result (is_spelled_base self.now ≡ true) }
+        ensures { OnOk result (out.new ≡ out.old ++ base_text self.now) }
     {
         match self {
             Base::Variable(named) => out.word(named.name.rows()),

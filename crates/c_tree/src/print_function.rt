@@ -1,7 +1,6 @@
 //! Printing functions.
 
 ghost use Rattle.std.specs.Prelude.{◌≡◌, ◌++◌, map, codes, OnOk, true};
-ghost use Rattle.c_tree.specs.SpelledUnits.{is_spelled_body, is_spelled_function, is_spelled_opening, is_spelled_parameter, is_spelled_prototype, is_spelled_result, is_spelled_returned, is_spelled_signature};
 ghost use Rattle.std.specs.List.{flat_map, list_all};
 ghost use Rattle.c_tree.specs.Printing.{behind_comma};
 ghost use Rattle.c_tree.specs.Items.{parameter_text, parameters_text, result_text, signature_text, prototype_text, class_of, return_text, opening_text, body_text, function_text};
@@ -16,8 +15,7 @@ use std::alloc::Global;
 
 impl Parameter {
     fn print(&self, out: &mut TextBuf) -> Result<(), NoMemory>
-        ensures text { OnOk result (out.new ≡ out.old ++ parameter_text self.now) }
-        ensures spelled { OnOk result (is_spelled_parameter self.now ≡ true) }
+        ensures { OnOk result (out.new ≡ out.old ++ parameter_text self.now) }
     {
         self.class.print(out)?;
         if self.is_pointer {
@@ -30,8 +28,7 @@ impl Parameter {
 }
 
 fn print_parameters(out: &mut TextBuf, parameters: &[Parameter]) -> Result<(), NoMemory>
-    ensures text { OnOk result (out.new ≡ out.old ++ parameters_text parameters.now) }
-    ensures spelled { OnOk result (list_all is_spelled_parameter parameters.now ≡ true) }
+    ensures { OnOk result (out.new ≡ out.old ++ parameters_text parameters.now) }
 {
     let Some((first, others)) = parameters.split_first() else {
         return out.word(b"void");
@@ -46,8 +43,7 @@ fn print_parameters(out: &mut TextBuf, parameters: &[Parameter]) -> Result<(), N
 
 impl Prototype {
     pub fn print(&self, out: &mut TextBuf) -> Result<(), NoMemory>
-        ensures text { OnOk result (out.new ≡ out.old ++ prototype_text self.now) }
-        ensures spelled { OnOk result (is_spelled_prototype self.now ≡ true) }
+        ensures { OnOk result (out.new ≡ out.old ++ prototype_text self.now) }
     {
         print_static(out, self.is_static)?;
         print_result(out, &self.class)?;
@@ -58,8 +54,7 @@ impl Prototype {
 
 /// Appends the type of what a function gives.
 fn print_result(out: &mut TextBuf, class: &Option<TypeName>) -> Result<(), NoMemory>
-    ensures text { OnOk result (out.new ≡ out.old ++ result_text class.now) }
-    ensures spelled { OnOk result (is_spelled_result class.now ≡ true) }
+    ensures { OnOk result (out.new ≡ out.old ++ result_text class.now) }
 {
     match class {
         Some(class) => class.print(out),
@@ -73,8 +68,7 @@ fn print_signature(
     name: &Named,
     parameters: &[Parameter],
 ) -> Result<(), NoMemory>
-    ensures text { OnOk result (out.new ≡ out.old ++ signature_text name.now parameters.now) }
-    ensures spelled { OnOk result (is_spelled_signature name.now parameters.now ≡ true) }
+    ensures { OnOk result (out.new ≡ out.old ++ signature_text name.now parameters.now) }
 {
     out.word(b" ")?;
     out.word(name.name.rows())?;
@@ -85,8 +79,7 @@ fn print_signature(
 
 impl Function {
     pub fn print(&self, alloc: Global, out: &mut TextBuf) -> Result<(), NoMemory>
-        ensures text { OnOk result (out.new ≡ out.old ++ function_text self.now) }
-        ensures spelled { OnOk result (is_spelled_function self.now ≡ true) }
+        ensures { OnOk result (out.new ≡ out.old ++ function_text self.now) }
     {
         self.print_opening(out)?;
         self.print_body(alloc, out, b"    ")?;
@@ -97,8 +90,7 @@ impl Function {
     /// Appends what stands between the braces.
     #[tactic(auto, unfolding(crate::specs::Items::body_text))]
     fn print_body(&self, alloc: Global, out: &mut TextBuf, margin: &[u8]) -> Result<(), NoMemory>
-        ensures text { OnOk result (out.new ≡ out.old ++ body_text margin.now self.now) }
-        ensures spelled { OnOk result (is_spelled_body self.now ≡ true) }
+        ensures { OnOk result (out.new ≡ out.old ++ body_text margin.now self.now) }
     {
         print_all(alloc, out, self.body.rows(), margin)?;
         print_return(out, &self.returned, margin)
@@ -107,8 +99,7 @@ impl Function {
     /// Appends the opening line.
     #[tactic(auto, unfolding(crate::specs::Items::opening_text))]
     fn print_opening(&self, out: &mut TextBuf) -> Result<(), NoMemory>
-        ensures text { OnOk result (out.new ≡ out.old ++ opening_text self.now) }
-        ensures spelled { OnOk result (is_spelled_opening self.now ≡ true) }
+        ensures { OnOk result (out.new ≡ out.old ++ opening_text self.now) }
     {
         print_static(out, self.is_static)?;
         self.print_class(out)?;
@@ -118,8 +109,7 @@ impl Function {
     }
 
     fn print_class(&self, out: &mut TextBuf) -> Result<(), NoMemory>
-        ensures text { OnOk result (out.new ≡ out.old ++ result_text (class_of self.now.returned)) }
-        ensures spelled { OnOk result (is_spelled_result (class_of self.now.returned) ≡ true) }
+        ensures { OnOk result (out.new ≡ out.old ++ result_text (class_of self.now.returned)) }
     {
         match &self.returned {
             Some(returned) => returned.class.print(out),
@@ -134,8 +124,7 @@ fn print_return(
     returned: &Option<Returned>,
     margin: &[u8],
 ) -> Result<(), NoMemory>
-    ensures text { OnOk result (out.new ≡ out.old ++ return_text margin.now returned.now) }
-    ensures spelled { OnOk result (is_spelled_returned returned.now ≡ true) }
+    ensures { OnOk result (out.new ≡ out.old ++ return_text margin.now returned.now) }
 {
     let Some(returned) = returned else {
         return Ok(());

@@ -1,7 +1,6 @@
 //! Printing what statements have beside blocks.
 
 ghost use Rattle.std.specs.Prelude.{◌≡◌, ◌++◌, ◌&&◌, IfOk, OnOk, true};
-ghost use Rattle.c_tree.specs.Spelled.{is_spelled_named, is_spelled_signed, is_spelled_count, is_spelled_local};
 ghost use Rattle.c_tree.specs.Statements.{deeper, local_text, count_start_text, count_end_text, count_text, forever_text};
 
 use crate::integer_type::IntegerType;
@@ -28,8 +27,7 @@ pub fn print_count(
     from: &SignedLiteral,
     below: &SignedLiteral,
 ) -> Result<(), NoMemory>
-    ensures text { OnOk result (out.new ≡ out.old ++ count_text class name.now from.now below.now) }
-    ensures spelled { OnOk result (is_spelled_count name.now from.now below.now ≡ true) }
+    ensures { OnOk result (out.new ≡ out.old ++ count_text class name.now from.now below.now) }
 {
     print_count_start(out, class, name, from)?;
     print_count_end(out, name, below)
@@ -41,8 +39,7 @@ fn print_count_start(
     name: &Named,
     from: &SignedLiteral,
 ) -> Result<(), NoMemory>
-    ensures text { OnOk result (out.new ≡ out.old ++ count_start_text class name.now from.now) }
-    ensures spelled { OnOk result ((is_spelled_named name.now && is_spelled_signed from.now) ≡ true) }
+    ensures { OnOk result (out.new ≡ out.old ++ count_start_text class name.now from.now) }
 {
     out.word(b"for (")?;
     out.word(class.spelling().as_bytes())?;
@@ -54,8 +51,7 @@ fn print_count_start(
 }
 
 fn print_count_end(out: &mut TextBuf, name: &Named, below: &SignedLiteral) -> Result<(), NoMemory>
-    ensures text { OnOk result (out.new ≡ out.old ++ count_end_text name.now below.now) }
-    ensures spelled { OnOk result (is_spelled_signed below.now ≡ true) }
+    ensures { OnOk result (out.new ≡ out.old ++ count_end_text name.now below.now) }
 {
     out.word(name.name.rows())?;
     out.word(b" < ")?;
@@ -74,8 +70,7 @@ pub fn print_forever(out: &mut TextBuf) -> Result<(), NoMemory>
 
 impl LocalValue {
     pub fn print(&self, out: &mut TextBuf) -> Result<(), NoMemory>
-        ensures text { OnOk result (out.new ≡ out.old ++ local_text self.now) }
-        ensures spelled { OnOk result (is_spelled_local self.now ≡ true) }
+        ensures { OnOk result (out.new ≡ out.old ++ local_text self.now) }
     {
         match self {
             LocalValue::ZeroArray(length) => {

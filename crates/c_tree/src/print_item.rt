@@ -1,7 +1,6 @@
 //! Printing what stands outside functions.
 
 ghost use Rattle.std.specs.Prelude.{◌≡◌, ◌++◌, OnOk, true};
-ghost use Rattle.c_tree.specs.SpelledUnits.{is_spelled_external, is_spelled_initial, is_spelled_item, is_spelled_pointer, is_spelled_variable};
 ghost use Rattle.c_tree.specs.Items.{initial_text, variable_text, external_text, pointer_text, item_text};
 
 use crate::item::{External, InitialValue, Item, Pointer, Variable};
@@ -11,8 +10,7 @@ use std::alloc::Global;
 
 impl Item {
     pub fn print(&self, alloc: Global, out: &mut TextBuf) -> Result<(), NoMemory>
-        ensures text { OnOk result (out.new ≡ out.old ++ item_text self.now) }
-        ensures spelled { OnOk result (is_spelled_item self.now ≡ true) }
+        ensures { OnOk result (out.new ≡ out.old ++ item_text self.now) }
     {
         match self {
             Item::Enumeration(enumeration) => enumeration.print(out),
@@ -28,8 +26,7 @@ impl Item {
 
 impl Variable {
     fn print(&self, out: &mut TextBuf) -> Result<(), NoMemory>
-        ensures text { OnOk result (out.new ≡ out.old ++ variable_text self.now) }
-        ensures spelled { OnOk result (is_spelled_variable self.now ≡ true) }
+        ensures { OnOk result (out.new ≡ out.old ++ variable_text self.now) }
     {
         print_static(out, self.is_static)?;
         print_declared(out, &self.class, &self.name, &self.length)?;
@@ -39,8 +36,7 @@ impl Variable {
 }
 
 fn print_initial(out: &mut TextBuf, value: &Option<InitialValue>) -> Result<(), NoMemory>
-    ensures text { OnOk result (out.new ≡ out.old ++ initial_text value.now) }
-    ensures spelled { OnOk result (is_spelled_initial value.now ≡ true) }
+    ensures { OnOk result (out.new ≡ out.old ++ initial_text value.now) }
 {
     let Some(value) = value else {
         return Ok(());
@@ -56,8 +52,7 @@ fn print_initial(out: &mut TextBuf, value: &Option<InitialValue>) -> Result<(), 
 
 impl External {
     fn print(&self, out: &mut TextBuf) -> Result<(), NoMemory>
-        ensures text { OnOk result (out.new ≡ out.old ++ external_text self.now) }
-        ensures spelled { OnOk result (is_spelled_external self.now ≡ true) }
+        ensures { OnOk result (out.new ≡ out.old ++ external_text self.now) }
     {
         out.word(b"extern ")?;
         print_declared(out, &self.class, &self.name, &self.length)?;
@@ -67,8 +62,7 @@ impl External {
 
 impl Pointer {
     fn print(&self, out: &mut TextBuf) -> Result<(), NoMemory>
-        ensures text { OnOk result (out.new ≡ out.old ++ pointer_text self.now) }
-        ensures spelled { OnOk result (is_spelled_pointer self.now ≡ true) }
+        ensures { OnOk result (out.new ≡ out.old ++ pointer_text self.now) }
     {
         out.word(b"volatile ")?;
         out.word(self.class.name.rows())?;

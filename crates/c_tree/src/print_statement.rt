@@ -1,7 +1,6 @@
 //! Printing statements.
 
 ghost use Rattle.std.specs.Prelude.{◌≡◌, ◌++◌, [], map, OnOk, true};
-ghost use Rattle.c_tree.specs.Spelled.{is_spelled_branch, is_spelled_otherwise, is_spelled_statement};
 ghost use Rattle.std.specs.List.{flat_map, list_all};
 ghost use Rattle.c_tree.specs.Statements.{deeper, line, all_lines, block_text, forever_text, else_text, otherwise_text, statement_text, branch_text};
 
@@ -14,8 +13,7 @@ impl Statement {
     /// Appends the statement from its first token to its last; its further lines have this margin.
     #[cycle(statements)]
     fn print(&self, alloc: Global, out: &mut TextBuf, margin: &[u8]) -> Result<(), NoMemory>
-        ensures text { OnOk result (out.new ≡ out.old ++ statement_text self.now margin.now) }
-        ensures spelled { OnOk result (is_spelled_statement self.now ≡ true) }
+        ensures { OnOk result (out.new ≡ out.old ++ statement_text self.now margin.now) }
     {
         match self {
             Statement::Local { class, name, value } => {
@@ -72,8 +70,7 @@ pub fn print_all(
     statements: &[Statement],
     margin: &[u8],
 ) -> Result<(), NoMemory>
-    ensures text { OnOk result (out.new ≡ out.old ++ all_lines (map statement_text statements.now) margin.now) }
-    ensures spelled { OnOk result (list_all (λ b. b) (map is_spelled_statement statements.now) ≡ true) }
+    ensures { OnOk result (out.new ≡ out.old ++ all_lines (map statement_text statements.now) margin.now) }
 {
     for statement in statements {
         out.word(margin)?;
@@ -91,8 +88,7 @@ fn print_block(
     body: &[Statement],
     margin: &[u8],
 ) -> Result<(), NoMemory>
-    ensures text { OnOk result (out.new ≡ out.old ++ block_text (map statement_text body.now) margin.now) }
-    ensures spelled { OnOk result (list_all (λ b. b) (map is_spelled_statement body.now) ≡ true) }
+    ensures { OnOk result (out.new ≡ out.old ++ block_text (map statement_text body.now) margin.now) }
 {
     out.word(b" {")?;
     out.newline()?;
@@ -105,8 +101,7 @@ fn print_block(
 impl Branch {
     #[cycle(statements)]
     fn print(&self, alloc: Global, out: &mut TextBuf, margin: &[u8]) -> Result<(), NoMemory>
-        ensures text { OnOk result (out.new ≡ out.old ++ branch_text self.now margin.now) }
-        ensures spelled { OnOk result (is_spelled_branch self.now ≡ true) }
+        ensures { OnOk result (out.new ≡ out.old ++ branch_text self.now margin.now) }
     {
         out.word(b"if (")?;
         self.condition.print(out)?;
@@ -123,8 +118,7 @@ fn print_others(
     branches: &[Branch],
     margin: &[u8],
 ) -> Result<(), NoMemory>
-    ensures text { OnOk result (out.new ≡ out.old ++ flat_map (else_text margin.now) (map branch_text branches.now)) }
-    ensures spelled { OnOk result (list_all (λ b. b) (map is_spelled_branch branches.now) ≡ true) }
+    ensures { OnOk result (out.new ≡ out.old ++ flat_map (else_text margin.now) (map branch_text branches.now)) }
 {
     for branch in branches {
         out.word(b" else ")?;
@@ -136,8 +130,7 @@ fn print_others(
 impl Otherwise {
     #[cycle(statements)]
     fn print(&self, alloc: Global, out: &mut TextBuf, margin: &[u8]) -> Result<(), NoMemory>
-        ensures text { OnOk result (out.new ≡ out.old ++ otherwise_text self.now margin.now) }
-        ensures spelled { OnOk result (is_spelled_otherwise self.now ≡ true) }
+        ensures { OnOk result (out.new ≡ out.old ++ otherwise_text self.now margin.now) }
     {
         match self {
             Otherwise::Block(body) => {

@@ -1,8 +1,6 @@
 //! Printing the types that declarations name, and what may stand behind a declared name.
 
 ghost use Rattle.std.specs.Prelude.{◌≡◌, ◌++◌, [], codes, OnOk, true};
-ghost use Rattle.c_tree.specs.Spelled.{is_spelled_class, is_spelled_signed};
-ghost use Rattle.c_tree.specs.SpelledUnits.{is_spelled_declared, is_spelled_length};
 ghost use Rattle.c_tree.specs.Items.{static_text};
 ghost use Rattle.c_tree.specs.Statements.{line};
 ghost use Rattle.c_tree.specs.Printing.{type_text, length_text, signed_text, declared_text, truth_text};
@@ -13,8 +11,7 @@ use hw_text::{NoMemory, TextBuf};
 
 impl TypeName {
     pub fn print(&self, out: &mut TextBuf) -> Result<(), NoMemory>
-        ensures text { OnOk result (out.new ≡ out.old ++ type_text self.now) }
-        ensures spelled { OnOk result (is_spelled_class self.now ≡ true) }
+        ensures { OnOk result (out.new ≡ out.old ++ type_text self.now) }
     {
         match self {
             TypeName::Integer(_, class) => out.word(class.spelling().as_bytes()),
@@ -26,8 +23,7 @@ impl TypeName {
 
 impl SignedLiteral {
     pub fn print(&self, out: &mut TextBuf) -> Result<(), NoMemory>
-        ensures text { OnOk result (out.new ≡ out.old ++ signed_text self.now) }
-        ensures spelled { OnOk result (is_spelled_signed self.now ≡ true) }
+        ensures { OnOk result (out.new ≡ out.old ++ signed_text self.now) }
     {
         if self.negative {
             out.word(b"-")?;
@@ -38,8 +34,7 @@ impl SignedLiteral {
 
 /// Appends the length of an array, in brackets.
 fn print_length(out: &mut TextBuf, length: &Option<Literal>) -> Result<(), NoMemory>
-    ensures text { OnOk result (out.new ≡ out.old ++ length_text length.now) }
-    ensures spelled { OnOk result (is_spelled_length length.now ≡ true) }
+    ensures { OnOk result (out.new ≡ out.old ++ length_text length.now) }
 {
     match length {
         Some(literal) => {
@@ -58,8 +53,7 @@ pub fn print_declared(
     name: &Named,
     length: &Option<Literal>,
 ) -> Result<(), NoMemory>
-    ensures text { OnOk result (out.new ≡ out.old ++ declared_text class.now name.now length.now) }
-    ensures spelled { OnOk result (is_spelled_declared class.now name.now length.now ≡ true) }
+    ensures { OnOk result (out.new ≡ out.old ++ declared_text class.now name.now length.now) }
 {
     class.print(out)?;
     out.word(b" ")?;

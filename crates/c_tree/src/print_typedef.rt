@@ -1,8 +1,6 @@
 //! Printing the types that units define.
 
 ghost use Rattle.std.specs.Prelude.{◌≡◌, ◌++◌, ◌∷◌, map, OnOk, true};
-ghost use Rattle.c_tree.specs.Spelled.{is_spelled_named};
-ghost use Rattle.c_tree.specs.SpelledUnits.{is_spelled_enumeration, is_spelled_member, is_spelled_structure};
 ghost use Rattle.std.specs.List.{flat_map, list_all};
 ghost use Rattle.c_tree.specs.Printing.{behind_comma, with_commas};
 ghost use Rattle.c_tree.specs.Items.{enumeration_opening, enumeration_text, structure_opening, member_text, structure_text, name_text};
@@ -14,8 +12,7 @@ use hw_text::{NoMemory, TextBuf};
 
 impl Enumeration {
     pub fn print(&self, out: &mut TextBuf) -> Result<(), NoMemory>
-        ensures text { OnOk result (out.new ≡ out.old ++ enumeration_text self.now) }
-        ensures spelled { OnOk result (is_spelled_enumeration self.now ≡ true) }
+        ensures { OnOk result (out.new ≡ out.old ++ enumeration_text self.now) }
     {
         open_enumeration(out)?;
         print_enumerators(out, &self.first, self.others.rows())?;
@@ -33,8 +30,7 @@ fn open_enumeration(out: &mut TextBuf) -> Result<(), NoMemory>
 }
 
 fn print_enumerators(out: &mut TextBuf, first: &Named, others: &[Named]) -> Result<(), NoMemory>
-    ensures text { OnOk result (out.new ≡ out.old ++ with_commas (map name_text (first.now ∷ others.now))) }
-    ensures spelled { OnOk result (list_all is_spelled_named (first.now ∷ others.now) ≡ true) }
+    ensures { OnOk result (out.new ≡ out.old ++ with_commas (map name_text (first.now ∷ others.now))) }
 {
     out.word(first.name.rows())?;
     for named in others {
@@ -46,8 +42,7 @@ fn print_enumerators(out: &mut TextBuf, first: &Named, others: &[Named]) -> Resu
 
 impl Structure {
     pub fn print(&self, out: &mut TextBuf) -> Result<(), NoMemory>
-        ensures text { OnOk result (out.new ≡ out.old ++ structure_text self.now) }
-        ensures spelled { OnOk result (is_spelled_structure self.now ≡ true) }
+        ensures { OnOk result (out.new ≡ out.old ++ structure_text self.now) }
     {
         open_structure(out)?;
         print_members(out, &self.first, self.others.rows())?;
@@ -65,8 +60,7 @@ fn open_structure(out: &mut TextBuf) -> Result<(), NoMemory>
 }
 
 fn print_members(out: &mut TextBuf, first: &Member, others: &[Member]) -> Result<(), NoMemory>
-    ensures text { OnOk result (out.new ≡ out.old ++ flat_map member_text (first.now ∷ others.now)) }
-    ensures spelled { OnOk result (list_all is_spelled_member (first.now ∷ others.now) ≡ true) }
+    ensures { OnOk result (out.new ≡ out.old ++ flat_map member_text (first.now ∷ others.now)) }
 {
     first.print(out)?;
     for member in others {
@@ -77,8 +71,7 @@ fn print_members(out: &mut TextBuf, first: &Member, others: &[Member]) -> Result
 
 impl Member {
     fn print(&self, out: &mut TextBuf) -> Result<(), NoMemory>
-        ensures text { OnOk result (out.new ≡ out.old ++ member_text self.now) }
-        ensures spelled { OnOk result (is_spelled_member self.now ≡ true) }
+        ensures { OnOk result (out.new ≡ out.old ++ member_text self.now) }
     {
         print_declared(out, &self.class, &self.name, &self.length)?;
         out.word(b"; ")

@@ -1,7 +1,6 @@
 //! Units of C, and their canonical text.
 
 ghost use Rattle.std.specs.Prelude.{◌≡◌, IfOk, true, OnOk};
-ghost use Rattle.c_tree.specs.SpelledUnits.{is_spelled_unit};
 ghost use Rattle.c_tree.specs.Items.{unit_text};
 
 use crate::item::Item;
@@ -19,8 +18,7 @@ pub struct Unit {
 /// The canonical text of a unit: four spaces a depth, and parentheses round each operand that is a
 /// binary operation.
 pub fn print(alloc: Global, unit: &Unit) -> Result<TextBuf, NoMemory>
-    ensures text { IfOk result (λ text. text ≡ unit_text unit.now) }
-    ensures spelled { OnOk result (is_spelled_unit unit.now ≡ true) }
+    ensures { IfOk result (λ text. text ≡ unit_text unit.now) }
 {
     let mut out = TextBuf::new(alloc);
     for item in unit.items.rows() {

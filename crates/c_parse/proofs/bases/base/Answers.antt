@@ -11,19 +11,19 @@ use Rattle.c_parse.proofs.BaseChoice.{named-for-users, named-there, pointer-ther
 use Rattle.c_parse.proofs.Pieces.{handed-on}
 use Rattle.c_parse.proofs.bases.base.Goals as goal
 
-pub returns-then-not-full : goal.returns-then-not-full
-returns-then-not-full c =
-    handed-on (SpellsBase c.args.full) (SpellsNamedBase c.args.full) NoArrow NoArrow _ _ _ (named-for-users c.args.full _ c.if-not-full.true) (λ m follows. follows) _ c.named_base.ensures
+pub returns-then-not-is_full : goal.returns-then-not-is_full
+returns-then-not-is_full c =
+    handed-on (SpellsBase c.args.dialect) (SpellsNamedBase c.args.dialect) NoArrow NoArrow _ _ _ (named-for-users c.args.dialect _ (sym c.is_full.ensures ∙ c.if-not-is_full.true)) (λ m follows. follows) _ c.named_base.ensures
 
 pub returns-in-Parenthesis : goal.returns-in-Parenthesis
 returns-in-Parenthesis c =
     let there = sym c.form_ahead.ensures ∙ c.in-Parenthesis.is in
     let same = unpassed form.Parenthesis c.args.passed c.args.tokens.now refl there in
-    subst (λ (ts : Tokens). Reads (SpellsBase c.args.full) NoArrow ts c.pointed_base.new.tokens c.pointed_base.result) (sym same)
-    (handed-on (SpellsBase c.args.full) SpellsPointedBase NoArrow Anything _ _ _
-    (pointer-there c.args.full _ c.if-not-full.false (ap form_ahead (sym same) ∙ there)) (λ m follows. tt) _ c.pointed_base.ensures)
+    subst (λ (ts : Tokens). Reads (SpellsBase c.args.dialect) NoArrow ts c.pointed_base.new.tokens c.pointed_base.result) (sym same)
+    (handed-on (SpellsBase c.args.dialect) SpellsPointedBase NoArrow Anything _ _ _
+    (pointer-there c.args.dialect _ (sym c.is_full.ensures ∙ c.if-not-is_full.false) (ap form_ahead (sym same) ∙ there)) (λ m follows. tt) _ c.pointed_base.ensures)
 
 pub returns-in_default : goal.returns-in_default
 returns-in_default c =
-    handed-on (SpellsBase c.args.full) (SpellsNamedBase c.args.full) NoArrow NoArrow _ _ _
-    (named-there c.args.full _ (λ opens. c.in_default.not-Parenthesis (c.form_ahead.ensures ∙ opens))) (λ m follows. follows) _ c.named_base-in_default.ensures
+    handed-on (SpellsBase c.args.dialect) (SpellsNamedBase c.args.dialect) NoArrow NoArrow _ _ _
+    (named-there c.args.dialect _ (λ opens. c.in_default.not-Parenthesis (c.form_ahead.ensures ∙ opens))) (λ m follows. follows) _ c.named_base-in_default.ensures

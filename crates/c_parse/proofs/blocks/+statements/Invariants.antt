@@ -28,7 +28,7 @@ decreases-otherwise l = 8 * length l.tokens.now + 1
 
 abbrev pub invariant-statements-all : goal.invariant-statements-all
 invariant-statements-all l =
-    Leaves (SpellsStatements l.fn.full) (BeginsWith ends_body) l.fn.tokens l.tokens (λ later. l.all ++ later) (Each (SpellsStatement l.fn.full)) ×
+    Leaves (SpellsStatements l.fn.dialect) (BeginsWith ends_body) l.fn.tokens l.tokens (λ later. l.all ++ later) (Each (SpellsStatement l.fn.dialect)) ×
     (length l.tokens ≤ length l.fn.tokens)
 
 abbrev pub decreases-statements-all : goal.decreases-statements-all
@@ -36,8 +36,8 @@ decreases-statements-all l = length l.tokens
 
 abbrev pub invariant-otherwise-others : goal.invariant-otherwise-others
 invariant-otherwise-others l =
-    Leaves (SpellsElse l.fn.full 0) NoElse l.fn.tokens l.tokens (so_far l.others) (SpellsElse l.fn.full (length l.others)) ×
-    (length l.tokens ≤ length l.fn.tokens) × LinksFit l.fn.full (length l.others)
+    Leaves (SpellsElse l.fn.dialect 0) NoElse l.fn.tokens l.tokens (so_far l.others) (SpellsElse l.fn.dialect (length l.others)) ×
+    (length l.tokens ≤ length l.fn.tokens) × LinksFit l.fn.dialect (length l.others)
 
 abbrev pub decreases-otherwise-others : goal.decreases-otherwise-others
 decreases-otherwise-others l = length l.tokens

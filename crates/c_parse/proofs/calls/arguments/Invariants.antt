@@ -6,7 +6,7 @@ use Rattle.c_parse.proofs.ArgumentLists.{All, Closes}
 use Rattle.c_parse.proofs.calls.arguments.Given as goal
 
 abbrev pub invariant-arguments : goal.invariant-arguments
-invariant-arguments l = Leaves (All l.fn.full) Closes l.fn.tokens l.tokens (λ later. l.read ++ later) (Each (Next l.fn.full))
+invariant-arguments l = Leaves (All l.fn.dialect) Closes l.fn.tokens l.tokens (λ later. l.read ++ later) (Each (Next l.fn.dialect))
 
 abbrev pub decreases-arguments : goal.decreases-arguments
 decreases-arguments l = length l.tokens

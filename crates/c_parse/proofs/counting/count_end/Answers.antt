@@ -5,16 +5,16 @@ use Rattle.c_parse.proofs.CountTexts.{a_signed, this_again}
 use Rattle.c_parse.proofs.counting.count_end.Goals as goal
 
 pub returns-in_err-again : goal.returns-in_err-again
-returns-in_err-again c = fails _ _ c.from_residual.ensures.1 c.in_err-again.ensures (stuck_in (made _ _ _ _) (both (the_sign mark.Less) (both a_signed (both (the_sign mark.Semicolon) (both (this_again _) (both (the_sign mark.Increment) (the_sign mark.CloseParenthesis)))))))
+returns-in_err-again c = fails _ _ c.from_residual.ensures.1 c.in_err-again.ensures (stuck_in (made _ _ _ _) (both (the_sign mark.Less) (both a_signed (both (the_sign mark.Semicolon) (both (this_again c.args.name.now) (both (the_sign mark.Increment) (the_sign mark.CloseParenthesis)))))))
 
 pub returns-in_err-place : goal.returns-in_err-place
-returns-in_err-place c = fails _ _ c.from_residual-in_err-place.ensures.1 c.in_err-place.ensures (stuck_in (passed (made _ _ _ _) c.in_ok-again.ensures) (both a_signed (both (the_sign mark.Semicolon) (both (this_again _) (both (the_sign mark.Increment) (the_sign mark.CloseParenthesis))))))
+returns-in_err-place c = fails _ _ c.from_residual-in_err-place.ensures.1 c.in_err-place.ensures (stuck_in (passed (made _ _ _ _) c.in_ok-again.ensures) (both a_signed (both (the_sign mark.Semicolon) (both (this_again c.args.name.now) (both (the_sign mark.Increment) (the_sign mark.CloseParenthesis))))))
 
 pub returns-in_err-below : goal.returns-in_err-below
-returns-in_err-below c = fails _ _ c.from_residual-in_err-below.ensures.1 c.in_err-below.ensures (stuck_in (passed (passed (made _ _ _ _) c.in_ok-again.ensures) c.in_ok-place.ensures) (both (the_sign mark.Semicolon) (both (this_again _) (both (the_sign mark.Increment) (the_sign mark.CloseParenthesis)))))
+returns-in_err-below c = fails _ _ c.from_residual-in_err-below.ensures.1 c.in_err-below.ensures (stuck_in (passed (passed (made _ _ _ _) c.in_ok-again.ensures) c.in_ok-place.ensures) (both (the_sign mark.Semicolon) (both (this_again c.args.name.now) (both (the_sign mark.Increment) (the_sign mark.CloseParenthesis)))))
 
 pub returns-in_err-sign : goal.returns-in_err-sign
-returns-in_err-sign c = fails _ _ c.from_residual-in_err-sign.ensures.1 c.in_err-sign.ensures (stuck_in (passed (passed (passed (made _ _ _ _) c.in_ok-again.ensures) c.in_ok-place.ensures) c.in_ok-below.ensures) (both (this_again _) (both (the_sign mark.Increment) (the_sign mark.CloseParenthesis))))
+returns-in_err-sign c = fails _ _ c.from_residual-in_err-sign.ensures.1 c.in_err-sign.ensures (stuck_in (passed (passed (passed (made _ _ _ _) c.in_ok-again.ensures) c.in_ok-place.ensures) c.in_ok-below.ensures) (both (this_again c.args.name.now) (both (the_sign mark.Increment) (the_sign mark.CloseParenthesis))))
 
 pub returns-in_err-again-2 : goal.returns-in_err-again-2
 returns-in_err-again-2 c = fails _ _ c.from_residual-in_err-again-2.ensures.1 c.in_err-again-2.ensures (stuck_in (passed (passed (passed (passed (made _ _ _ _) c.in_ok-again.ensures) c.in_ok-place.ensures) c.in_ok-below.ensures) c.in_ok-sign.ensures) (both (the_sign mark.Increment) (the_sign mark.CloseParenthesis)))

@@ -28,7 +28,7 @@ decreases-selector l = 32 * length l.tokens.now + 1
 
 abbrev pub invariant-of_level-operations : goal.invariant-of_level-operations
 invariant-of_level-operations l =
-    Leaves (SpellsExpression l.fn.full l.fn.level) (Ends l.fn.level) (from_name l.fn.passed l.fn.tokens) l.tokens (λ os. chained l.left os) (SpellsOperations l.fn.full l.fn.level) ×
+    Leaves (SpellsExpression l.fn.dialect l.fn.level) (Ends l.fn.level) (from_name l.fn.passed l.fn.tokens) l.tokens (λ os. chained l.left os) (SpellsOperations l.fn.dialect l.fn.level) ×
     (length l.tokens ≤ length l.fn.tokens)
 
 abbrev pub decreases-of_level-operations : goal.decreases-of_level-operations
@@ -36,7 +36,7 @@ decreases-of_level-operations l = length l.tokens
 
 abbrev pub invariant-selectors-parts : goal.invariant-selectors-parts
 invariant-selectors-parts l =
-    Leaves (SpellsParts l.fn.full) (BeginsWithout is_selector) l.fn.tokens l.tokens (λ later. l.parts ++ later) (SpellsParts l.fn.full) ×
+    Leaves (SpellsParts l.fn.dialect) (BeginsWithout is_selector) l.fn.tokens l.tokens (λ later. l.parts ++ later) (SpellsParts l.fn.dialect) ×
     (length l.tokens ≤ length l.fn.tokens)
 
 abbrev pub decreases-selectors-parts : goal.decreases-selectors-parts

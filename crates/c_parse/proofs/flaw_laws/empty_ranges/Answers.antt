@@ -9,4 +9,4 @@ pub returns-clause-only : goal.returns-clause-only
 returns-clause-only c = range-at
 
 pub returns-clause-sound : goal.returns-clause-sound
-returns-clause-sound c full ts i at none empty = flaw-of-empty full ts i at (range-found-at ts i at empty) none
+returns-clause-sound c dialect ts i at none empty = flaw-of-empty dialect ts i at (range-found-at ts i at empty) none

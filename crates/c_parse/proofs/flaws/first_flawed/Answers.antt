@@ -26,4 +26,4 @@ loop-index-preserved c =
     }
 
 pub returns : goal.returns
-returns c = no-flaw c.args.full c.args.tokens.now c.loop-index.index c.loop-index-test.false c.loop-index.invariant.sound
+returns c = no-flaw c.args.dialect c.args.tokens.now c.loop-index.index c.loop-index-test.false c.loop-index.invariant.sound

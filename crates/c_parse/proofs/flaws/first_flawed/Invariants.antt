@@ -8,5 +8,5 @@ abbrev pub invariant-loop-index : goal.invariant-loop-index
 invariant-loop-index l = record {
   opened : l.brackets.opened ≡ count_by (λ t. opens t.token) (take l.index l.tokens);
   closed : l.brackets.closed ≡ count_by (λ t. closes t.token) (take l.index l.tokens);
-  sound : (k : ℕ) → k < l.index → flaw_at l.full l.tokens k ≡ None;
+  sound : (k : ℕ) → k < l.index → flaw_at l.dialect l.tokens k ≡ None;
 }

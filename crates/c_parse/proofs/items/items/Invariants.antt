@@ -5,7 +5,7 @@ use Rattle.c_parse.specs.UnitGrammar.{SpellsItem}
 use Rattle.c_parse.proofs.items.items.Given as goal
 
 abbrev pub invariant-all : goal.invariant-all
-invariant-all l = Leaves (Each (SpellsItem l.fn.full)) TheEnd l.fn.tokens l.tokens (λ later. l.all ++ later) (Each (SpellsItem l.fn.full))
+invariant-all l = Leaves (Each (SpellsItem l.fn.dialect)) TheEnd l.fn.tokens l.tokens (λ later. l.all ++ later) (Each (SpellsItem l.fn.dialect))
 
 abbrev pub decreases-all : goal.decreases-all
 decreases-all l = length l.tokens

@@ -8,8 +8,8 @@ use Rattle.c_parse.specs.UnitGrammar.{SpellsParameter}
 use Rattle.c_parse.proofs.parameter_list.more_parameters.Given as goal
 
 abbrev pub invariant-parameters : goal.invariant-parameters
-invariant-parameters l = Leaves (Following l.fn.first (BehindComma (SpellsParameter l.fn.full))) (BeginsWithout (is_mark mark.Comma)) l.fn.tokens l.tokens
-    (λ later. l.parameters ++ later) (Each (BehindComma (SpellsParameter l.fn.full)))
+invariant-parameters l = Leaves (Following l.fn.first (BehindComma (SpellsParameter l.fn.dialect))) (BeginsWithout (is_mark mark.Comma)) l.fn.tokens l.tokens
+    (λ later. l.parameters ++ later) (Each (BehindComma (SpellsParameter l.fn.dialect)))
 
 abbrev pub decreases-parameters : goal.decreases-parameters
 decreases-parameters l = length l.tokens

@@ -1,5 +1,8 @@
-use Rattle.c_parse.proofs.ReadBack.{read_back}
+use Rattle.c_parse.proofs.ReadBack.{full_back, user_back}
 use Rattle.c_parse.proofs.printed.printed_is_text.Goals as goal
 
-pub returns : goal.returns
-returns c = λ full u spelled user limits. read_back full u spelled user limits
+pub returns-clause-full : goal.returns-clause-full
+returns-clause-full c = λ u holds. full_back u holds
+
+pub returns-clause-user : goal.returns-clause-user
+returns-clause-user c = λ u user limits. user_back u user limits

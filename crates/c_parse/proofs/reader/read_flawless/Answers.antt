@@ -15,27 +15,27 @@ returns-then-left-eq0-clause-read c =
       ended = empty c.args.lexed.now.rest.now c.if-left-eq0.true;
       spelled = whole.0;
       only = whole.1;
-      sound = λ k. not-flawed c.args.full c.args.lexed.now.tokens k (c.requires k);
+      sound = λ k. not-flawed c.args.dialect c.args.lexed.now.tokens k (c.requires k);
     }
 
 pub returns-in_ok-unexpected_at-in-Text-clause-refused : goal.returns-in_ok-unexpected_at-in-Text-clause-refused
 returns-in_ok-unexpected_at-in-Text-clause-refused c =
     let l = c.args.lexed.now in
-    let rules = unit_rules c.args.full in
+    let rules = unit_rules c.args.dialect in
     let whole = rw (c.rows.ensures, c.in-Text.is) at c.in_ok-unit.ensures in
-    let told = c.in_ok-unexpected_at-in-Text.ensures ∙ ap (λ (ts : Tokens). unexpected_at c.args.full l.tokens l.end l.rest.now (length ts)) c.rows-else-left-eq0.ensures in (
+    let told = c.in_ok-unexpected_at-in-Text.ensures ∙ ap (λ (ts : Tokens). unexpected_at c.args.dialect l.tokens l.end l.rest.now (length ts)) c.rows-else-left-eq0.ensures in (
       length l.tokens,
       subst (FailsAt rules l.tokens l.end l.rest.now (length l.tokens)) (sym told)
-          (text-stopped rules l.tokens l.end l.rest.now c.in-Text.unit (λ k. not-flawed c.args.full l.tokens k (c.requires k)) whole.0
+          (text-stopped rules l.tokens l.end l.rest.now c.in-Text.unit (λ k. not-flawed c.args.dialect l.tokens k (c.requires k)) whole.0
           (λ ended. c.if-left-eq0.false (ap (λ (r : List ℕ). length r) ended))),
     )
 
 pub returns-in_ok-unexpected_at-in-Stuck-clause-refused : goal.returns-in_ok-unexpected_at-in-Stuck-clause-refused
 returns-in_ok-unexpected_at-in-Stuck-clause-refused c =
     let l = c.args.lexed.now in
-    let rules = unit_rules c.args.full in
+    let rules = unit_rules c.args.dialect in
     let stuck = rw (c.rows.ensures, c.in-Stuck.is) at c.in_ok-unit.ensures in (
       c.in-Stuck.passed,
       subst (FailsAt rules l.tokens l.end l.rest.now c.in-Stuck.passed) (sym c.in_ok-unexpected_at-in-Stuck.ensures)
-          (sound-stuck rules l.tokens l.end l.rest.now c.in-Stuck.passed (λ k. not-flawed c.args.full l.tokens k (c.requires k)) stuck),
+          (sound-stuck rules l.tokens l.end l.rest.now c.in-Stuck.passed (λ k. not-flawed c.args.dialect l.tokens k (c.requires k)) stuck),
     )

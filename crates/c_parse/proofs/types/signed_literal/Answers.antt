@@ -1,6 +1,6 @@
 use Rattle.std.proofs.Common.{sym, ◌∙◌}
 use Rattle.hw_text.proofs.Reading.{failed}
-use Rattle.c_parse.proofs.TypeTexts.{plain-stuck, minus-stuck, negative-read, negative-stuck}
+use Rattle.c_parse.proofs.TypeTexts.{plain-stuck, plain-read, minus-stuck, negative-read, negative-stuck}
 use Rattle.c_parse.proofs.types.signed_literal.Goals as goal
 
 pub returns-in_err-start : goal.returns-in_err-start
@@ -20,3 +20,6 @@ pub returns-in_err-literal-2 : goal.returns-in_err-literal-2
 returns-in_err-literal-2 c =
     failed _ _ _ _ _ _ _ _ _ c.from_residual-in_err-literal-2.ensures.1 c.in_err-literal-2.ensures
     (plain-stuck _ _ (sym c.stands.ensures ∙ c.if-stands.false))
+
+pub returns : goal.returns
+returns c = plain-read _ _ (sym c.stands.ensures ∙ c.if-stands.false) _ c.in_ok-literal-2.ensures

@@ -12,14 +12,14 @@ use Rattle.c_parse.proofs.whole.read_whole.Goals as goal
 
 pub returns-then-left-eq0 : goal.returns-then-left-eq0
 returns-then-left-eq0 c =
-    let A = SpellsUnit c.args.full c.args.end in
+    let A = SpellsUnit c.args.dialect c.args.end in
     let F = TheEnd in
     let so = subst (λ (ts : List (Placed Token)). Reached A F ts c.unit.new.tokens c.in-Ok.value) c.new-cursor.ensures c.in-Ok.ensures in
     all-read A F refl c.args.tokens.now c.unit.new.tokens c.in-Ok.value (sym c.left.ensures ∙ c.if-left-eq0.true) so
 
 pub returns-else-left-eq0 : goal.returns-else-left-eq0
 returns-else-left-eq0 c =
-    let A = SpellsUnit c.args.full c.args.end in
+    let A = SpellsUnit c.args.dialect c.args.end in
     let F = TheEnd in
     let ts = c.args.tokens.now in
     let so = subst (λ (l : List (Placed Token)). Reached A F l c.unit.new.tokens c.in-Ok.value) c.new-cursor.ensures c.in-Ok.ensures in
@@ -28,7 +28,7 @@ returns-else-left-eq0 c =
 
 pub returns-in-Err-Syntax : goal.returns-in-Err-Syntax
 returns-in-Err-Syntax c =
-    let A = SpellsUnit c.args.full c.args.end in
+    let A = SpellsUnit c.args.dialect c.args.end in
     let F = TheEnd in
     let ts = c.args.tokens.now in
     let stuck = subst (λ (e : ReadFault). Reads A F c.new-cursor.result c.unit.new.tokens (Err e)) c.in-Err-Syntax.field-0-is c.in-Err-Syntax.ensures in

@@ -1,11 +1,9 @@
 use Rattle.std.proofs.Common.{◌≡◌, ◌++◌, drop, map}
-use Rattle.std.specs.List.{flat_map, list_all}
+use Rattle.std.specs.List.{flat_map}
 use Rattle.c_tree.specs.Printing.{behind_comma}
 use Rattle.c_tree.specs.Expressions.{argument_text}
-use Rattle.c_tree.specs.Spelled.{is_spelled_argument}
 use Rattle.c_tree.proofs.print_call.print_arguments.Given as goal
 
 abbrev pub invariant-loop-argument : goal.invariant-loop-argument
 invariant-loop-argument l =
-    (l.out ++ flat_map behind_comma (map argument_text (drop l.argument-index l.others)) ≡ l.initial.out ++ flat_map behind_comma (map argument_text l.others)) ×
-    (list_all is_spelled_argument (drop l.argument-index l.others) ≡ list_all is_spelled_argument l.others)
+    l.out ++ flat_map behind_comma (map argument_text (drop l.argument-index l.others)) ≡ l.initial.out ++ flat_map behind_comma (map argument_text l.others)

@@ -1,11 +1,9 @@
 use Rattle.std.proofs.Common.{◌≡◌, ◌++◌, drop, map}
-use Rattle.std.specs.List.{flat_map, list_all}
+use Rattle.std.specs.List.{flat_map}
 use Rattle.c_tree.specs.Printing.{behind_comma}
 use Rattle.c_tree.specs.Items.{name_text}
-use Rattle.c_tree.specs.Spelled.{is_spelled_named}
 use Rattle.c_tree.proofs.print_typedef.print_enumerators.Given as goal
 
 abbrev pub invariant-loop-named : goal.invariant-loop-named
 invariant-loop-named l =
-    (l.out ++ flat_map behind_comma (map name_text (drop l.named-index l.others)) ≡ l.initial.out ++ flat_map behind_comma (map name_text l.others)) ×
-    (list_all is_spelled_named (drop l.named-index l.others) ≡ list_all is_spelled_named l.others)
+    l.out ++ flat_map behind_comma (map name_text (drop l.named-index l.others)) ≡ l.initial.out ++ flat_map behind_comma (map name_text l.others)

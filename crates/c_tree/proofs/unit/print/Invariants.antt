@@ -1,10 +1,8 @@
 use Rattle.std.proofs.Common.{◌≡◌, ◌++◌, drop}
-use Rattle.std.specs.List.{flat_map, list_all}
+use Rattle.std.specs.List.{flat_map}
 use Rattle.c_tree.specs.Items.{item_text}
-use Rattle.c_tree.specs.SpelledUnits.{is_spelled_item}
 use Rattle.c_tree.proofs.unit.print.Given as goal
 
 abbrev pub invariant-loop-item : goal.invariant-loop-item
 invariant-loop-item l =
-    (l.out ++ flat_map item_text (drop l.item-index l.item-items) ≡ l.initial.out ++ flat_map item_text l.item-items) ×
-    (list_all is_spelled_item (drop l.item-index l.item-items) ≡ list_all is_spelled_item l.item-items)
+    l.out ++ flat_map item_text (drop l.item-index l.item-items) ≡ l.initial.out ++ flat_map item_text l.item-items
