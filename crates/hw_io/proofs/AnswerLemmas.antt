@@ -1,5 +1,5 @@
 -- Counts that are exactly those of an answer rise where a fault or an absence is answered, and never fall.
-use Rattle.std.proofs.Common.{◌≡◌, ◌<◌, ◌≤◌, ap, refl, arith, ℕ, List}
+use Rattle.std.proofs.Common.{◌≡◌, ap, refl, arith, ℕ, List}
 use Rattle.hw_io.specs.declared.answers.ReadAnswer.{ReadAnswer}
 use Rattle.hw_io.specs.declared.answers.ReadAnswer.TheVariants as read
 use Rattle.hw_io.specs.declared.answers.WriteAnswer.{WriteAnswer}
