@@ -1,9 +1,8 @@
 //! The program `hamr`.
 #![tactic(auto)]
 
-pub use hamr_cli::{Status, hamr};
-
 use hamr_cli::answer;
+pub use hamr_cli::{Status, hamr};
 use hw_io::{DirStore, OutSink};
 use std::process::ExitCode;
 use std::{env, io};
