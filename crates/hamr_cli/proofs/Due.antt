@@ -12,13 +12,12 @@ use Rattle.hamr_cli.specs.declared.files.Stop.TheVariants as stop
 use Rattle.hamr_cli.specs.declared.status.Status.{Status}
 use Rattle.hamr_cli.specs.Answer.{IsDue, IsAnswerOf}
 use Rattle.hamr_cli.specs.Command.{Command, judge, tidy}
-use Rattle.hamr_cli.specs.Files.{File, HasWritten}
-use Rattle.hamr_cli.specs.Kept.{HoldsTheSame, IsOnlyRead}
+use Rattle.hamr_cli.specs.Files.{File, HasWritten, HoldsTheSame}
+use Rattle.hamr_cli.specs.Inner.{IsOnlyRead, OnStopped, OnTold, IsToldAs, IsUnread}
 use Rattle.hamr_cli.specs.Outside.{Outside}
 use Rattle.hamr_cli.specs.Output.{Output, Gives, PrintsAlone}
 use Rattle.hamr_cli.specs.Reads.{Names, IsTold, IsTurnOf}
 use Rattle.hamr_cli.specs.Status.{IsOfContent}
-use Rattle.hamr_cli.specs.Stop.{OnStopped, OnTold, IsToldAs, IsUnread}
 
 -- a command that reads a file has its output over stores that tell
 pub told_store : (store : StoreMeaning) (command : Command) (file : List ℕ) → Names command file → IsTold store command → store.tells ≡ true

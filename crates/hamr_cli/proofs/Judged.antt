@@ -6,13 +6,13 @@ use Rattle.arch_model.specs.declared.parts.ArchParts.{ArchParts}
 use Rattle.hw_text.specs.declared.no_memory.NoMemory.{NoMemory}
 use Rattle.hamr_cli.specs.declared.files.Stop.{Stop}
 use Rattle.hamr_cli.specs.declared.files.Stop.TheVariants as stop
-use Rattle.hamr_cli.specs.Stop.{OnStopped, OnTold}
+use Rattle.hamr_cli.specs.Inner.{OnStopped, OnTold, UnreadAs}
 use Rattle.hamr_cli.specs.declared.judgement.Judgement.{Judgement}
 use Rattle.hamr_cli.specs.declared.judgement.Judgement.TheVariants as judgement
 use Rattle.hamr_cli.specs.declared.trace.fault.TraceFault.{TraceFault}
 use Rattle.hamr_cli.specs.declared.trace.fault.TraceFault.TheVariants as fault
 use Rattle.hamr_cli.specs.declared.trace.line.Line.{Line}
-use Rattle.hamr_cli.specs.Judge.{IsJudgedTrace, IsJudgedBy, IsJudged, JudgeTells, UnreadAs}
+use Rattle.hamr_cli.specs.Judge.{IsJudgedTrace, IsJudgedBy, IsJudged, JudgeTells}
 use Rattle.hamr_cli.specs.Trace.{IsTraceOf, IsFirstBadLine}
 use Rattle.hamr_cli.specs.TraceFault.{OnBadLine, GivesTrace, GivesBadLine}
 

@@ -14,7 +14,8 @@ use Rattle.rts_rules.specs.declared.fault.StepFault.TheVariants as fault
 use Rattle.rts_rules.specs.Fault.{IfIllegal}
 use Rattle.hw_text.specs.declared.no_memory.NoMemory.{NoMemory}
 use Rattle.hamr_cli.specs.declared.judgement.Judgement.{Judgement}
-use Rattle.hamr_cli.specs.Judge.{events_of, IsIllegalAt, IsVerdict, EndsAs}
+use Rattle.hamr_cli.specs.Judge.{events_of, IsIllegalAt, IsVerdict}
+use Rattle.hamr_cli.specs.Inner.{EndsAs}
 
 AreAllowed-push : (arch : ArchParts) (state : Services) (events : List Event) (event : Event) →
     AreAllowed arch state events → IsAllowed arch (after_all arch state events) event → AreAllowed arch state (events ++ event ∷ [])

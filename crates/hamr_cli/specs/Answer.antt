@@ -7,8 +7,7 @@ use Rattle.hamr_cli.specs.declared.status.Status.TheVariants as status
 use Rattle.hamr_cli.specs.declared.report.Report.{Report}
 use Rattle.hamr_cli.specs.Cause.{report_of, words, absent, read_fault, write_fault}
 use Rattle.hamr_cli.specs.Command.{Command, IsRow, IsNoRow}
-use Rattle.hamr_cli.specs.Files.{File, HasWritten}
-use Rattle.hamr_cli.specs.Kept.{HoldsTheSame}
+use Rattle.hamr_cli.specs.Files.{File, HasWritten, HoldsTheSame}
 use Rattle.hamr_cli.specs.Outside.{Outside}
 use Rattle.hamr_cli.specs.Output.{Output, Gives}
 use Rattle.hamr_cli.specs.Reads.{IsTurnOf, IsTold}

@@ -11,3 +11,7 @@ pub record File : Type 0 where
 pub record HasWritten (before after : StoreMeaning) (files : List File) (done : ℕ) : Type 0 where
   pub written : after.tells ≡ true → (place : ℕ) (file : File) → slice_get files place ≡ Some file → place < done → after.held file.name ≡ Some file.bytes
   pub others : (name : List ℕ) → ((place : ℕ) (file : File) → slice_get files place ≡ Some file → place ≤ done → file.name ≢ name) → after.held name ≡ before.held name
+
+-- each name holds what it held
+abbrev pub HoldsTheSame : StoreMeaning → StoreMeaning → Type 0
+HoldsTheSame before after = (name : List ℕ) → after.held name ≡ before.held name

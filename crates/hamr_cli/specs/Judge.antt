@@ -37,11 +37,6 @@ IsVerdict arch events (judgement.BadLine number) = ⊥
 IsVerdict arch events judgement.Legal = IsServiceRun arch events
 IsVerdict arch events (judgement.Illegal number rule) = IsIllegalAt arch events number rule
 
--- the answer where a step was not taken
-abbrev pub EndsAs : StepFault → ℕ → Result Judgement NoMemory → Type 0
-EndsAs (fault.Illegal rule) number answer = answer ≡ Ok (judgement.Illegal number rule)
-EndsAs fault.NoMemory number answer = answer ≡ Err (record {})
-
 -- the lines of the trace, these and no others, and what the rules say of them
 pub record HasLines (arch : ArchParts) (bytes : List ℕ) (Says : List Event → Type 0) : Type 0 where
   pub lines : List Line
@@ -61,11 +56,6 @@ IsJudgedTrace arch bytes judgement.NotBuilt = ⊥
 IsJudgedTrace arch bytes (judgement.BadLine number) = IsBadTrace arch bytes number
 IsJudgedTrace arch bytes judgement.Legal = HasLines arch bytes (IsServiceRun arch)
 IsJudgedTrace arch bytes (judgement.Illegal number rule) = HasLines arch bytes (λ events. IsIllegalAt arch events number rule)
-
--- the answer where the trace was not read
-abbrev pub UnreadAs : TraceFault → Result Judgement NoMemory → Type 0
-UnreadAs (trace_fault.BadLine number) answer = answer ≡ Ok (judgement.BadLine number)
-UnreadAs trace_fault.NoMemory answer = answer ≡ Err (record {})
 
 -- the trace in the file is judged
 pub record IsJudgedFile (held : List ℕ → Option (List ℕ)) (arch : ArchParts) (trace : List ℕ) (found : Judgement) : Type 0 where

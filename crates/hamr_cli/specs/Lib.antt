@@ -5,9 +5,9 @@ pub mod Cause
 pub mod Command
 pub mod Complete
 pub mod Files
+pub mod Inner
 pub mod Instance
 pub mod Judge
-pub mod Kept
 pub mod Model
 pub mod ModelFile
 pub mod Names
@@ -19,7 +19,6 @@ pub mod PortType
 pub mod Reads
 pub mod Status
 pub mod Steps
-pub mod Stop
 pub mod Tidy
 pub mod Trace
 pub mod TraceFault

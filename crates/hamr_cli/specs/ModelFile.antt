@@ -42,14 +42,3 @@ pub record TakesModel (held : List ℕ → Option (List ℕ)) (model : List ℕ)
 -- the output of a command that reads the file, by what it tells of a model
 abbrev pub OnModel : (List ℕ → Option (List ℕ)) → List ℕ → (Package → Report → Type 0) → Report → Type 0
 OnModel held model Tells report = RefusesModel held model report ⊎ TakesModel held model Tells report
-
--- what the text in the file is
-pub record FileIs (held : List ℕ → Option (List ℕ)) (model : List ℕ) (t : ModelText) : Type 0 where
-  pub bytes : List ℕ
-  pub model_held : held model ≡ Some bytes
-  pub is_text : IsModelText bytes t
-
--- what is answered where the text was not read
-abbrev pub ParsedAs : Fault → Result ModelText NoMemory → Type 0
-ParsedAs (fault.Refused r) answer = answer ≡ Ok (text.Refused r)
-ParsedAs fault.NoMemory answer = answer ≡ Err (record {})

@@ -1,4 +1,4 @@
--- Facts by the faults of a line and of a trace.
+-- Facts by the faults of a line and of a trace. No clause of the top call cites this.
 use Rattle.std.specs.Prelude.{◌≡◌, ℕ, List, Result, Ok, Err}
 use Rattle.hamr_cli.specs.declared.trace.fault.LineFault.{LineFault}
 use Rattle.hamr_cli.specs.declared.trace.fault.LineFault.TheVariants as line

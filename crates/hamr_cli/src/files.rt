@@ -1,8 +1,7 @@
 //! Reading the files that the words name.
 
 ghost use Rattle.std.specs.Prelude.{◌≡◌, List, ℕ, Some, true, IfOk};
-ghost use Rattle.hamr_cli.specs.Kept.{IsOnlyRead};
-ghost use Rattle.hamr_cli.specs.Stop.{OnStopped, IsUnread};
+ghost use Rattle.hamr_cli.specs.Inner.{IsOnlyRead, OnStopped, IsUnread};
 
 use crate::Report;
 use crate::cause::{absent_file, unreadable_file};

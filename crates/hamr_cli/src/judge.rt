@@ -1,10 +1,9 @@
 //! The command `judge MODEL TRACE`, once the model is read.
 
 ghost use Rattle.std.specs.Prelude.{◌≡◌, List, ℕ, Some, true, IfOk};
-ghost use Rattle.hamr_cli.specs.Judge.{IsJudged, IsJudgedFile, IsJudgedTrace, UnreadAs};
+ghost use Rattle.hamr_cli.specs.Judge.{IsJudged, IsJudgedFile, IsJudgedTrace};
+ghost use Rattle.hamr_cli.specs.Inner.{UnreadAs, IsOnlyRead, OnStopped, IsUnread};
 ghost use Rattle.hamr_cli.specs.Package.{IsThin};
-ghost use Rattle.hamr_cli.specs.Kept.{IsOnlyRead};
-ghost use Rattle.hamr_cli.specs.Stop.{OnStopped, IsUnread};
 
 use crate::files::{Stop, read_file};
 use crate::judgement::Judgement;

@@ -1,9 +1,8 @@
 //! Reading the file of a model.
 
 ghost use Rattle.std.specs.Prelude.{◌≡◌, List, ℕ, Some, true, IfOk};
-ghost use Rattle.hamr_cli.specs.ModelFile.{IsModelText, FileIs, ParsedAs};
-ghost use Rattle.hamr_cli.specs.Kept.{IsOnlyRead};
-ghost use Rattle.hamr_cli.specs.Stop.{OnStopped, IsUnread};
+ghost use Rattle.hamr_cli.specs.ModelFile.{IsModelText};
+ghost use Rattle.hamr_cli.specs.Inner.{FileIs, ParsedAs, IsOnlyRead, OnStopped, IsUnread};
 
 use crate::files::{Stop, read_file};
 use aadl_parse::parse;

@@ -5,10 +5,10 @@ ghost use Rattle.hamr_cli.specs.Answer.{IsDue};
 ghost use Rattle.hamr_cli.specs.Cause.{report_of, words};
 ghost use Rattle.hamr_cli.specs.Command.{judge as asked_judge, tidy as asked_tidy};
 ghost use Rattle.hamr_cli.specs.Judge.{JudgeTells};
-ghost use Rattle.hamr_cli.specs.Kept.{HoldsTheSame};
+ghost use Rattle.hamr_cli.specs.Files.{HoldsTheSame};
 ghost use Rattle.hamr_cli.specs.Package.{IsThin};
 ghost use Rattle.hamr_cli.specs.Status.{IsOfContent};
-ghost use Rattle.hamr_cli.specs.Stop.{OnStopped, OnTold, IsUnread};
+ghost use Rattle.hamr_cli.specs.Inner.{OnStopped, OnTold, IsUnread};
 
 use crate::Report;
 use crate::cause::{refused_text, refused_words};

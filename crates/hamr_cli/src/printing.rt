@@ -2,7 +2,7 @@
 
 ghost use Rattle.std.specs.Prelude.{◌≡◌};
 ghost use Rattle.hamr_cli.specs.Answer.{IsPrinted};
-ghost use Rattle.hamr_cli.specs.Stop.{IsToldAs};
+ghost use Rattle.hamr_cli.specs.Inner.{IsToldAs};
 
 use crate::files::Stop;
 use crate::{Report, Status};

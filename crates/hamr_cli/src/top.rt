@@ -4,7 +4,7 @@ ghost use Rattle.hamr_cli.specs.Answer.{IsAnswer, IsAnswerOf};
 ghost use Rattle.hamr_cli.specs.Asked.{asked};
 ghost use Rattle.hamr_cli.specs.Command.{Command as Asked, IsRow, IsNoRow};
 ghost use Rattle.hamr_cli.specs.Complete.{Serves, IsDoneOrNoMemory};
-ghost use Rattle.hamr_cli.specs.Kept.{HoldsTheSame};
+ghost use Rattle.hamr_cli.specs.Files.{HoldsTheSame};
 ghost use Rattle.hamr_cli.specs.Outside.{outside};
 ghost use Rattle.hamr_cli.specs.Status.{IsRefusal, IsWordsOrNothing};
 

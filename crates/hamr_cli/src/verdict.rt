@@ -1,7 +1,8 @@
 //! Whether the lines of a trace are a run of the services.
 
 ghost use Rattle.std.specs.Prelude.{IfOk, All};
-ghost use Rattle.hamr_cli.specs.Judge.{events_of, IsVerdict, EndsAs};
+ghost use Rattle.hamr_cli.specs.Judge.{events_of, IsVerdict};
+ghost use Rattle.hamr_cli.specs.Inner.{EndsAs};
 ghost use Rattle.rts_rules.specs.Step.{IsEventOf};
 
 use crate::judgement::Judgement;

@@ -5,7 +5,7 @@ use Rattle.hamr_cli.specs.Command.{judge}
 use Rattle.hamr_cli.specs.Judge.{JudgeTells}
 use Rattle.hamr_cli.specs.Package.{IsThin}
 use Rattle.hamr_cli.specs.Status.{IsOfContent}
-use Rattle.hamr_cli.specs.Stop.{IsUnread}
+use Rattle.hamr_cli.specs.Inner.{IsUnread}
 use Rattle.hamr_cli.proofs.Due.{output_due, refused_content, told_store, unread_due, unread_earlier}
 use Rattle.hamr_cli.proofs.Judged.{told-by, tells-earlier}
 use Rattle.hamr_cli.proofs.outputs.run_judge.Goals as goal
