@@ -1,21 +1,17 @@
 -- From what is told of a command to its answer.
-use Rattle.std.proofs.Common.{◌≡◌, ◌≢◌, ℕ, ◌≤◌, true, List, [], length, Option, Some, None, Result, Ok, Err, IfOk, refl, sym, ◌∙◌, subst, arith, inl, inr, slice_get}
-use Rattle.hw_io.specs.Meaning.{StoreMeaning, SinkMeaning}
+use Rattle.std.proofs.Common.{◌≡◌, ℕ, true, List, [], refl, sym, ◌∙◌, subst, arith, inl, inr}
+use Rattle.hw_io.specs.Meaning.{StoreMeaning}
 use Rattle.hw_text.specs.declared.document.Document.{Document}
 use Rattle.hw_text.specs.declared.document.Document.TheVariants as document
 use Rattle.hw_text.specs.declared.refusal.Refusal.{Refusal}
 use Rattle.hw_text.specs.Code.{document_of}
 use Rattle.hamr_cli.specs.Cause.{report_of, refused, status_of_document}
 use Rattle.hamr_cli.specs.declared.report.Report.{Report}
-use Rattle.hamr_cli.specs.declared.files.Stop.{Stop}
-use Rattle.hamr_cli.specs.declared.files.Stop.TheVariants as stop
-use Rattle.hamr_cli.specs.declared.status.Status.{Status}
-use Rattle.hamr_cli.specs.Answer.{IsDue, IsAnswerOf}
-use Rattle.hamr_cli.specs.Command.{Command, judge, tidy}
-use Rattle.hamr_cli.specs.Files.{File, HasWritten, HoldsTheSame}
-use Rattle.hamr_cli.specs.Inner.{IsOnlyRead, OnStopped, OnTold, IsToldAs, IsUnread}
-use Rattle.hamr_cli.specs.Outside.{Outside}
-use Rattle.hamr_cli.specs.Output.{Output, Gives, PrintsAlone}
+use Rattle.hamr_cli.specs.Answer.{IsDue}
+use Rattle.hamr_cli.specs.Command.{Command}
+use Rattle.hamr_cli.specs.Files.{HasWritten, HoldsTheSame}
+use Rattle.hamr_cli.specs.Inner.{IsOnlyRead, IsUnread}
+use Rattle.hamr_cli.specs.Output.{Gives}
 use Rattle.hamr_cli.specs.Reads.{Names, IsTold, IsTurnOf}
 use Rattle.hamr_cli.specs.Status.{IsOfContent}
 

@@ -1,12 +1,10 @@
 -- What is answered where nothing outside fails.
-use Rattle.std.proofs.Common.{◌≡◌, ◌≢◌, ◌⊎◌, ℕ, List, Option, Some, None, IsSome, refl, ap, sym, ◌∙◌, subst, inl, inr}
+use Rattle.std.proofs.Common.{◌≡◌, ◌⊎◌, ℕ, List, Option, None, IsSome, refl, ap, sym, ◌∙◌, subst, inl, inr}
 use Rattle.std.proofs.lemmas.Option.{same_Some}
 use Rattle.hw_text.specs.WholeTexts.{IsTextOf}
 use Rattle.aadl_tree.specs.declared.package.Package.{Package}
 use Rattle.aadl_parse.specs.Rules.{model_rules}
-use Rattle.hw_io.specs.Meaning.{StoreMeaning}
 use Rattle.hamr_cli.specs.declared.status.Status.{Status}
-use Rattle.hamr_cli.specs.declared.status.Status.TheVariants as status
 use Rattle.hamr_cli.specs.declared.report.Report.{Report}
 use Rattle.hamr_cli.specs.declared.judgement.Judgement.{Judgement}
 use Rattle.hamr_cli.specs.declared.judgement.Judgement.TheVariants as judgement
@@ -18,7 +16,7 @@ use Rattle.hamr_cli.specs.Judge.{IsJudged, JudgeTells, AreAccepted, told_of}
 use Rattle.hamr_cli.specs.ModelFile.{RefusesModel, TakesModel, OnModel, HoldsPackage}
 use Rattle.hamr_cli.specs.Outside.{Outside}
 use Rattle.hamr_cli.specs.Output.{Output, Gives, Accepts}
-use Rattle.hamr_cli.specs.Reads.{Reads, IsTold, IsTurnOf}
+use Rattle.hamr_cli.specs.Reads.{Reads, IsTurnOf}
 use Rattle.hamr_cli.specs.Status.{IsSuccess, IsWordsOrNothing}
 use Rattle.hamr_cli.specs.Tidy.{IsTidied}
 use Rattle.hamr_cli.proofs.Due.{told_store}

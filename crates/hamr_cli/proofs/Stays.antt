@@ -13,7 +13,7 @@ use Rattle.aadl_parse.specs.Rules.{model_rules}
 use Rattle.aadl_parse.proofs.PrintedLaw.{printed}
 use Rattle.hamr_cli.specs.declared.report.Report.{Report}
 use Rattle.hamr_cli.specs.declared.status.Status.TheVariants as status
-use Rattle.hamr_cli.specs.Output.{Output, TidiedStays}
+use Rattle.hamr_cli.specs.Output.{TidiedStays}
 use Rattle.hamr_cli.specs.ModelFile.{HoldsPackage, OnModel}
 use Rattle.hamr_cli.specs.Tidy.{tidied, IsTidyText, IsTidied}
 

@@ -1,5 +1,5 @@
 -- The answer of a call: what it prints and writes and its status, from the words, and the outside before and after.
-use Rattle.std.specs.Prelude.{◌≡◌, ◌⊎◌, ℕ, true, List, length, take, Some, None, IsSome, slice_get}
+use Rattle.std.specs.Prelude.{◌≡◌, ◌⊎◌, ℕ, true, List, length, take, Some, None, slice_get}
 use Rattle.hw_io.specs.Meaning.{StoreMeaning, SinkMeaning, ReadFailed, WriteFailed, FoundNothing, SinkFailed}
 use Rattle.hw_io.specs.Written.{Appends, SentPart}
 use Rattle.hamr_cli.specs.declared.status.Status.{Status}

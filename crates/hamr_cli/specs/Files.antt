@@ -1,5 +1,5 @@
 -- The files that a command writes, and what a store holds once some of them are written (this project's own).
-use Rattle.std.specs.Prelude.{◌≡◌, ◌≢◌, ℕ, ◌<◌, ◌≤◌, List, Option, Some, slice_get, true}
+use Rattle.std.specs.Prelude.{◌≡◌, ◌≢◌, ℕ, ◌<◌, ◌≤◌, List, Some, slice_get, true}
 use Rattle.hw_io.specs.Meaning.{StoreMeaning}
 
 -- a name and the bytes that it is given

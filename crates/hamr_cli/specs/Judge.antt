@@ -1,20 +1,15 @@
 -- What `judge MODEL TRACE` prints of a model, by the bytes of the trace.
-use Rattle.std.specs.Prelude.{◌≡◌, ℕ, List, [], ◌∷◌, ◌++◌, codes, map, Option, Some, Result, Ok, Err}
+use Rattle.std.specs.Prelude.{◌≡◌, ℕ, List, [], ◌∷◌, ◌++◌, codes, map, Option, Some}
 use Rattle.std.specs.Fmt.{decimal}
 use Rattle.arch_model.specs.declared.parts.ArchParts.{ArchParts}
 use Rattle.rts_rules.specs.declared.event.Event.{Event}
 use Rattle.rts_rules.specs.declared.rule.Rule.{Rule}
-use Rattle.rts_rules.specs.declared.fault.StepFault.{StepFault}
-use Rattle.rts_rules.specs.declared.fault.StepFault.TheVariants as fault
-use Rattle.hw_text.specs.declared.no_memory.NoMemory.{NoMemory}
 use Rattle.rts_rules.specs.Rule.{word_of}
 use Rattle.rts_rules.specs.Run.{IsServiceRun, IsFirstIllegal}
 use Rattle.hamr_cli.specs.declared.status.Status.TheVariants as status
 use Rattle.hamr_cli.specs.declared.report.Report.{Report}
 use Rattle.hamr_cli.specs.declared.judgement.Judgement.{Judgement}
 use Rattle.hamr_cli.specs.declared.judgement.Judgement.TheVariants as judgement
-use Rattle.hamr_cli.specs.declared.trace.fault.TraceFault.{TraceFault}
-use Rattle.hamr_cli.specs.declared.trace.fault.TraceFault.TheVariants as trace_fault
 use Rattle.hamr_cli.specs.declared.trace.line.Line.{Line}
 use Rattle.hamr_cli.specs.Cause.{report_of, refused, not_built, bad_line}
 use Rattle.aadl_tree.specs.declared.package.Package.{Package}

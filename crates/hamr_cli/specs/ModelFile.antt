@@ -1,8 +1,5 @@
 -- The file of a model: what its bytes are, and what that means for a command that reads it.
-use Rattle.std.specs.Prelude.{◌≡◌, ◌⊎◌, ℕ, List, Option, Some, Result, Ok, Err}
-use Rattle.hw_text.specs.declared.fault.Fault.{Fault}
-use Rattle.hw_text.specs.declared.fault.Fault.TheVariants as fault
-use Rattle.hw_text.specs.declared.no_memory.NoMemory.{NoMemory}
+use Rattle.std.specs.Prelude.{◌≡◌, ◌⊎◌, ℕ, List, Option, Some}
 use Rattle.hw_text.specs.declared.refusal.Refusal.{Refusal}
 use Rattle.hw_text.specs.WholeTexts.{IsTextOf, IsAccepted, IsRejected}
 use Rattle.aadl_tree.specs.declared.package.Package.{Package}

@@ -1,5 +1,5 @@
 -- The numbers of the exit statuses, and what they are told apart by (this project's own; README).
-use Rattle.std.specs.Prelude.{◌≡◌, ◌⊎◌, ℕ, Bool, true, false}
+use Rattle.std.specs.Prelude.{◌≡◌, ◌⊎◌, ℕ}
 use Rattle.hamr_cli.specs.declared.status.Status.{Status}
 use Rattle.hamr_cli.specs.declared.status.Status.TheVariants as status
 

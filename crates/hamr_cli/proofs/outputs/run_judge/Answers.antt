@@ -1,5 +1,4 @@
 use Rattle.std.proofs.Common.{◌≡◌, true, [], ◌∷◌, refl, ◌∙◌, inl, inr}
-use Rattle.hamr_cli.specs.declared.report.Report.{Report}
 use Rattle.hamr_cli.specs.Answer.{IsDue}
 use Rattle.hamr_cli.specs.Command.{judge}
 use Rattle.hamr_cli.specs.Judge.{JudgeTells}

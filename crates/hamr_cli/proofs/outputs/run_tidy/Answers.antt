@@ -1,4 +1,4 @@
-use Rattle.std.proofs.Common.{◌≡◌, refl, sym, subst, inl, inr}
+use Rattle.std.proofs.Common.{refl, sym, subst, inl, inr}
 use Rattle.hamr_cli.specs.declared.report.Report.{Report}
 use Rattle.hamr_cli.specs.Command.{tidy}
 use Rattle.hamr_cli.specs.Status.{IsOfContent}
