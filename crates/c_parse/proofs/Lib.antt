@@ -103,6 +103,7 @@ pub mod WrittenStatements
 pub mod WrittenUnits
 pub mod AcceptedUnits
 pub mod PrintedLimits
+pub mod SoundRanges
 pub mod SoundTokens
 pub mod SoundExpressions
 pub mod SoundStatements

@@ -32,7 +32,8 @@ use Rattle.c_parse.specs.declared.keyword.Keyword.TheVariants as keyword
 use Rattle.c_parse.specs.declared.mark.Mark.TheVariants as mark
 use Rattle.c_parse.specs.declared.token.Token.{Token}
 use Rattle.c_parse.specs.declared.token.Token.TheVariants as token
-use Rattle.c_parse.proofs.SoundTokens.{Sound, none, and-then, sign, word, named, literal, integer, counted, forever}
+use Rattle.c_parse.proofs.SoundRanges.{counted, forever}
+use Rattle.c_parse.proofs.SoundTokens.{Sound, none, and-then, sign, word, named, literal, integer}
 use Rattle.c_parse.proofs.SoundExpressions.{lvalue, call, right_side}
 
 pub typed : (t : TypeName) {ts : List Token} → Sound ts → Sound (type_token t ∷ ts)
