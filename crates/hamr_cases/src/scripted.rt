@@ -1,5 +1,7 @@
 //! A file system of one file, whose reads and writes go by a script.
 
+ghost use Rattle.std.specs.Prelude.{◌≤◌, IfOk};
+
 use std::alloc::Allocator;
 use std::fs::{Metadata, OpenFile, OpenOptions};
 use std::io;
@@ -38,7 +40,9 @@ impl ScriptedFiles {
 
 impl ScriptedFile {
     /// How many bytes the next call takes or gives, of so many.
-    fn next(&mut self, room: usize) -> io::Result<usize> {
+    fn next(&mut self, room: usize) -> io::Result<usize>
+        ensures { IfOk result (λ taken. taken ≤ room) }
+    {
         let letter = self.script.get(self.calls).copied().unwrap_or(b'n');
         self.calls = self.calls.saturating_add(1);
         match letter {
