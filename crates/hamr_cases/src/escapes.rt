@@ -4,6 +4,7 @@ ghost use Rattle.std.specs.Prelude.{◌≤◌, length, IfOk};
 
 use crate::trouble::Trouble;
 use hw_text::{NoMemory, TextBuf, front};
+use std::alloc::Global;
 
 const DIGITS: [u8; 16] = *b"0123456789abcdef";
 
@@ -21,6 +22,13 @@ pub fn unescape(out: &mut TextBuf, text: &[u8]) -> Result<(), Trouble> {
         }
     }
     Ok(())
+}
+
+/// The bytes that a text stands for.
+pub fn unescaped(alloc: Global, text: &[u8]) -> Result<TextBuf, Trouble> {
+    let mut out = TextBuf::new(alloc);
+    unescape(&mut out, text)?;
+    Ok(out)
 }
 
 /// The byte that is written behind a backslash, and the text behind it.

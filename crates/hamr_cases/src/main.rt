@@ -5,6 +5,7 @@
 mod answers;
 mod bytes;
 mod commands;
+mod composed;
 mod escapes;
 mod events;
 mod instances;

@@ -83,7 +83,7 @@ fn add_piece(
     rest: &[u8],
     out: &mut TextBuf,
 ) -> Result<(), NoMemory> {
-    if let Err(trouble) = question.add(alloc, &world.texts, sign, rest) {
+    if let Err(trouble) = question.text.add(alloc, &world.texts, sign, rest) {
         question.is_spoilt = true;
         tell_trouble(out, trouble, number)?;
     }
@@ -103,7 +103,7 @@ fn show_answer(
     if question.is_spoilt {
         return Ok(());
     }
-    if question.is_open() {
+    if question.text.is_open() {
         return tell_trouble(out, Trouble::BadLine, question.number);
     }
     let mut told = TextBuf::new(alloc);
