@@ -21,7 +21,9 @@ mod top;
 mod trace;
 mod verdict;
 
-pub use arguments::answer;
 use report::Report;
+
+pub use arguments::answer;
+pub use package::read_package;
 pub use status::Status;
 pub use top::hamr;
