@@ -21,9 +21,8 @@ mod top;
 mod trace;
 mod verdict;
 
-use report::Report;
-
 pub use arguments::answer;
 pub use package::read_package;
+use report::Report;
 pub use status::Status;
 pub use top::hamr;
