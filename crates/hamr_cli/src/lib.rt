@@ -21,5 +21,6 @@ mod verdict;
 
 use report::Report;
 
+pub use package::read_package;
 pub use status::Status;
 pub use top::hamr;
