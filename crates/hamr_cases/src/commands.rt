@@ -21,7 +21,7 @@ pub fn answer(
     }
     let words = question.words(alloc)?;
     let status = hamr(alloc, &words, &mut world.store, &mut world.sink);
-    tell_number(out, b"status", i128::from(status as u8))?;
+    tell_number(out, b"status", i128::from(status.number()))?;
     tell_text(out, world.sink.bytes())?;
     world.clear(alloc)?;
     Ok(true)

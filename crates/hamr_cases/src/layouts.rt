@@ -1,6 +1,7 @@
 //! Layouts of types, and values as bytes.
 
 use crate::bytes::pieces;
+use crate::chains::chain;
 use crate::escapes::{tell_hex, two_digits};
 use crate::lists::{numbers, tell_numbers};
 use crate::question::Question;
@@ -21,6 +22,7 @@ pub fn answer(
 ) -> Result<bool, Trouble> {
     match question.word.rows() {
         b"layout" => layout(alloc, question, world, out)?,
+        b"chain" => chain(alloc, question, out)?,
         b"bytes" => value_in(alloc, world.layout()?, &question.words(alloc)?, out)?,
         b"value" => bytes_for(alloc, world.layout()?, &question.words(alloc)?, out)?,
         _ => return Ok(false),
@@ -49,7 +51,7 @@ fn layout(
 }
 
 /// `size SIZE align ALIGN: OFFSET SCALAR, OFFSET SCALAR ..`
-fn tell_layout(out: &mut TextBuf, layout: &Layout) -> Result<(), NoMemory> {
+pub fn tell_layout(out: &mut TextBuf, layout: &Layout) -> Result<(), NoMemory> {
     out.word(b"size ")?;
     out.number(i128::from(layout.size()))?;
     out.word(b" align ")?;

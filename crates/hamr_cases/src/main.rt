@@ -4,6 +4,7 @@
 
 mod answers;
 mod bytes;
+mod chains;
 mod commands;
 mod composed;
 mod escapes;

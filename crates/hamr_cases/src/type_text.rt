@@ -49,27 +49,34 @@ fn add(alloc: Global, fields: &mut TyList, word: &[u8]) -> Result<(), Trouble> {
 /// The type without parts that a word spells.
 fn plain(word: &[u8]) -> Result<Ty, Trouble> {
     match word {
-        b"u8" => Ok(Ty::One(Scalar::U8)),
-        b"u16" => Ok(Ty::One(Scalar::U16)),
-        b"u32" => Ok(Ty::One(Scalar::U32)),
-        b"u64" => Ok(Ty::One(Scalar::U64)),
-        b"i8" => Ok(Ty::One(Scalar::I8)),
-        b"i16" => Ok(Ty::One(Scalar::I16)),
-        b"i32" => Ok(Ty::One(Scalar::I32)),
-        b"i64" => Ok(Ty::One(Scalar::I64)),
-        b"flag" => Ok(Ty::One(Scalar::Flag)),
         b"nothing" => Ok(Ty::Nothing),
+        _ => Ok(Ty::One(scalar(word)?)),
+    }
+}
+
+/// The scalar that a word spells.
+pub fn scalar(word: &[u8]) -> Result<Scalar, Trouble> {
+    match word {
+        b"u8" => Ok(Scalar::U8),
+        b"u16" => Ok(Scalar::U16),
+        b"u32" => Ok(Scalar::U32),
+        b"u64" => Ok(Scalar::U64),
+        b"i8" => Ok(Scalar::I8),
+        b"i16" => Ok(Scalar::I16),
+        b"i32" => Ok(Scalar::I32),
+        b"i64" => Ok(Scalar::I64),
+        b"flag" => Ok(Scalar::Flag),
         _ => choice(word),
     }
 }
 
 /// `choice:COUNT`
-fn choice(word: &[u8]) -> Result<Ty, Trouble> {
+fn choice(word: &[u8]) -> Result<Scalar, Trouble> {
     let Some(digits) = behind_bytes(word, b"choice:") else {
         return Err(Trouble::BadLine);
     };
     match count(digits) {
-        Some(names) => Ok(Ty::One(Scalar::Choice(names))),
+        Some(names) => Ok(Scalar::Choice(names)),
         None => Err(Trouble::BadLine),
     }
 }
