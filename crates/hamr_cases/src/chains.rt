@@ -65,10 +65,19 @@ fn linked(alloc: Global, extent: &Extent, link: Link) -> Result<Extent, NoMemory
     ensures { IfOk result (λ made. (ty : AnyType) × IsExtentOf ty made) }
 {
     match link {
-        Link::Wrapped => Ok(Members::new(alloc).with(extent)?.into_extent()),
-        Link::Times(times) => extent.times(alloc, times),
+        Link::Wrapped => wrapped(alloc, extent),
+        Link::Times(times) => Ok(extent.times(alloc, times)?),
         Link::Beside(scalar) => beside(alloc, extent, &Extent::of_scalar(alloc, scalar)?),
     }
+}
+
+/// A struct of one member.
+fn wrapped(alloc: Global, only: &Extent) -> Result<Extent, NoMemory>
+    requires { (ty : AnyType) × IsExtentOf ty only.now }
+    ensures { IfOk result (λ made. (ty : AnyType) × IsExtentOf ty made) }
+{
+    let members = Members::new(alloc).with(only)?;
+    Ok(members.into_extent())
 }
 
 /// A struct of two members.
@@ -77,7 +86,9 @@ fn beside(alloc: Global, first: &Extent, second: &Extent) -> Result<Extent, NoMe
     requires second { (ty : AnyType) × IsExtentOf ty second.now }
     ensures { IfOk result (λ made. (ty : AnyType) × IsExtentOf ty made) }
 {
-    Ok(Members::new(alloc).with(first)?.with(second)?.into_extent())
+    let one = Members::new(alloc).with(first)?;
+    let two = one.with(second)?;
+    Ok(two.into_extent())
 }
 
 /// The layout, or `too wide COUNT align ALIGN`.
