@@ -1,7 +1,6 @@
 mod Annexes
-mod Choices
 mod Flawless
-mod OneAndEach
+mod OneSymbols
 pub mod PrintedLaw
 mod QuantityReads
 mod Repeats
@@ -15,9 +14,11 @@ pub mod RespelledNames
 pub mod RespelledPackages
 pub mod RespelledTypes
 pub mod RespelledValues
+mod Sections
 mod Sequences
 mod SomeOf
 mod Spelling
+mod Steps
 mod ThreeParts
 mod ValueReads
 pub mod WholeModels

@@ -24,7 +24,7 @@ module _ {X : Type 0} (A : X → List (Placed Token) → Type 0) (starts goes_on
     absent not_there = ended (Maybe A) F before before (λ (u : ⊤). None)
         (none (Maybe A) F before before A (λ o. o) (λ x w m text follows same. never-begins (one_of starts) A before is not_there x w m text same) maybe)
 
-    present : begins (one_of starts) before ≡ true → Leaves (Maybe A) F before before (λ x. Some x) A
+    pub present : begins (one_of starts) before ≡ true → Leaves (Maybe A) F before before (λ x. Some x) A
     present there = some (Maybe A) F before before A (λ o. o) (λ m follows same. never-follows (one_of starts) before there m (without-left starts goes_on m follows) same) maybe
 
     pub present-stuck : (after : List (Placed Token)) → begins (one_of starts) before ≡ true → Stuck A (Without goes_on) before after → Stuck (Maybe A) F before after

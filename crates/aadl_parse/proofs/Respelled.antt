@@ -7,8 +7,7 @@ use Rattle.hw_text.specs.declared.placed.Placed.{Placed}
 use Rattle.hw_text.specs.Language.{One, ◌⋅◌, Maybe, Each, Made}
 use Rattle.aadl_tree.specs.declared.token.Token.{Token}
 use Rattle.aadl_tree.proofs.ValueInduction.{OfEach}
-use Rattle.aadl_parse.specs.declared.choice.Choice.{Choice}
-use Rattle.aadl_parse.specs.declared.choice.Choice.TheVariants.{First, Second}
+use Rattle.aadl_parse.specs.Choice.{Choice, First, Second}
 use Rattle.aadl_parse.specs.SimpleValue.{Symbol, Either}
 use Rattle.aadl_parse.specs.Shapes.{symbol_of}
 

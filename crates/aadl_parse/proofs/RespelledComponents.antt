@@ -20,8 +20,7 @@ use Rattle.aadl_tree.specs.declared.word.Word.TheVariants as word
 use Rattle.aadl_tree.specs.Canonical.{category_word, maybe_behind_dot, class_tokens, section_tokens}
 use Rattle.aadl_tree.specs.Packages.{own_tokens, direction_word, kind_tokens, feature_tokens, subcomponent_tokens, end_tokens, connection_tokens, annex_token, annex_tokens}
 use Rattle.aadl_tree.specs.Unplaced.{origin, unplaced_named, unplaced_class, unplaced_own, unplaced_kind, unplaced_feature, unplaced_subcomponent, unplaced_end, unplaced_connection, unplaced_annex}
-use Rattle.aadl_parse.specs.declared.choice.Choice.{Choice}
-use Rattle.aadl_parse.specs.declared.choice.Choice.TheVariants.{First, Second}
+use Rattle.aadl_parse.specs.Choice.{Choice, First, Second}
 use Rattle.aadl_parse.specs.Builds.{section_of, or_none, listed, feature_of, subcomponent_of, connection_end_of, connection_of, members_behind, annex_of}
 use Rattle.aadl_parse.specs.Grammar.{SpellsEnding, SpellsKind, SpellsFeature, SpellsSubcomponent, SpellsEnd, SpellsDestination, SpellsConnection, SpellsNone, Section, SpellsAnnex}
 use Rattle.aadl_parse.specs.SimpleValue.{Symbol, SpellsClass, Either}

@@ -24,8 +24,7 @@ use Rattle.aadl_tree.specs.Canonical.{category_word, implementation_name_tokens,
 use Rattle.aadl_tree.specs.Packages.{feature_tokens, subcomponent_tokens, connection_tokens, annex_tokens, type_tokens, implementation_tokens, declaration_tokens}
 use Rattle.aadl_tree.specs.Unplaced.{unplaced_named, unplaced_implementation_name, unplaced_association, unplaced_feature, unplaced_subcomponent, unplaced_connection, unplaced_annex, unplaced_type, unplaced_implementation, unplaced_declaration}
 use Rattle.aadl_tree.specs.Values.{association_tokens}
-use Rattle.aadl_parse.specs.declared.choice.Choice.{Choice}
-use Rattle.aadl_parse.specs.declared.choice.Choice.TheVariants.{First, Second}
+use Rattle.aadl_parse.specs.Choice.{Choice, First, Second}
 use Rattle.aadl_parse.specs.Builds.{or_none, TypeParts, ImplementationParts, ComponentParts, declaration_of}
 use Rattle.aadl_parse.specs.Grammar.{SpellsSubcomponents, SpellsConnections, SpellsProperties, SpellsAnnex, SpellsImplementationName, SpellsTypeBody, SpellsImplementationBody, SpellsComponent, SpellsDeclaration}
 use Rattle.aadl_parse.specs.SimpleValue.{Symbol, Either}

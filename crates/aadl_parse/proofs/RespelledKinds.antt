@@ -16,8 +16,7 @@ use Rattle.aadl_tree.specs.declared.word.Word.TheVariants as word
 use Rattle.aadl_tree.specs.Canonical.{category_word, class_tokens}
 use Rattle.aadl_tree.specs.Packages.{direction_word, kind_tokens}
 use Rattle.aadl_tree.specs.Unplaced.{unplaced_class, unplaced_kind}
-use Rattle.aadl_parse.specs.declared.choice.Choice.{Choice}
-use Rattle.aadl_parse.specs.declared.choice.Choice.TheVariants.{First, Second}
+use Rattle.aadl_parse.specs.Choice.{Choice, First, Second}
 use Rattle.aadl_parse.specs.Builds.{either_of, data_kind_of, event_data_kind_of, event_kind_of, events_of}
 use Rattle.aadl_parse.specs.Grammar.{SpellsDataKind, SpellsEventKinds, SpellsKind}
 use Rattle.aadl_parse.specs.SimpleValue.{Symbol, SpellsClass, Either}

@@ -5,8 +5,7 @@ use Rattle.std.specs.Option.{option_map}
 use Rattle.hw_text.specs.declared.place.Place.{Place}
 use Rattle.hw_text.specs.declared.placed.Placed.{Placed}
 use Rattle.hw_text.specs.Language.{One, ◌⋅◌, Maybe, Each, Made}
-use Rattle.aadl_tree.specs.declared.class.BaseType.{BaseType}
-use Rattle.aadl_tree.specs.declared.class.BaseType.TheVariants.{Boolean}
+use Rattle.hw_text.specs.declared.base_type.BaseType.{BaseType}
 use Rattle.aadl_tree.specs.declared.class.Class.{Class}
 use Rattle.aadl_tree.specs.declared.class.Class.TheVariants.{Base, Model}
 use Rattle.aadl_tree.specs.declared.class.ModelClass.{ModelClass}
@@ -18,12 +17,13 @@ use Rattle.aadl_tree.specs.declared.names.QualifiedName.{QualifiedName}
 use Rattle.aadl_tree.specs.declared.token.Token.{Token}
 use Rattle.aadl_tree.specs.declared.token.Token.TheVariants as token
 use Rattle.aadl_tree.specs.Canonical.{behind_colons, behind_dot, maybe_behind_dot, qualified_tokens, path_tokens, base_tokens, class_tokens}
-use Rattle.aadl_tree.specs.Classes.{base_name}
+use Rattle.hw_text.specs.BaseTypes.{base_name, base_named}
+use Rattle.hw_text.proofs.BaseNames.{named_own}
 use Rattle.aadl_tree.specs.Unplaced.{origin, unplaced_named, unplaced_qualified, unplaced_path, unplaced_class}
 use Rattle.aadl_tree.proofs.OwnNames.{own_name_of}
-use Rattle.aadl_parse.specs.declared.choice.Choice.TheVariants.{First, Second}
+use Rattle.aadl_parse.specs.Choice.{First, Second}
 use Rattle.aadl_parse.specs.SimpleValue.{Symbol, name_behind, qualified_of, SpellsQualified, path_of, SpellsPath, base_class_of, model_class_of, SpellsClass}
-use Rattle.aadl_parse.specs.Terminals.{named_of, name_of, base_package_of, class_name_of, base_named, base_of}
+use Rattle.aadl_parse.specs.Terminals.{named_of, name_of, base_package_of, class_name_of, base_of}
 use Rattle.aadl_parse.proofs.Respelled.{Spelled, then, made, one, symbol, not-there-plain, there-plain, each-plain}
 
 pub named : (n : Named) → Spelled (One named_of) unplaced_named (unplaced_named n) (token.Name n.name ∷ [])
@@ -67,9 +67,7 @@ path p =
     (named p.first) (each-plain BehindDot behind_dot dot p.others))
 
 base-named : (b : BaseType) → base_named (base_name b) ≡ Some b
-unfolding base_named base_name
-base-named Boolean = refl
-base-named _ = refl
+base-named b = named_own (base_name b) b refl
 
 base-class : (at : Place) (b : BaseType) → Spelled (Made base_class_of (One base_package_of ⋅ (Symbol (codes "::") ⋅ One base_of))) unplaced_class (Base origin b) (base_tokens b)
 base-class at b =

@@ -22,7 +22,7 @@ use Rattle.aadl_tree.specs.Values.{sign_tokens, number_token, unit_tokens, quant
 use Rattle.aadl_tree.proofs.UnplacedValues.{unplaced_value-Quantity, unplaced_value-Range, unplaced_value-Name}
 use Rattle.aadl_tree.proofs.ValueLemmas.{value_tokens-Quantity, value_tokens-Range, value_tokens-Text, value_tokens-Truth, value_tokens-Name}
 use Rattle.aadl_parse.specs.Builds.{either_of}
-use Rattle.aadl_parse.specs.declared.choice.Choice.TheVariants.{First, Second}
+use Rattle.aadl_parse.specs.Choice.{First, Second}
 use Rattle.aadl_parse.specs.SimpleValue.{Symbol, quantity_of, SpellsQuantity, range_of, SpellsRange, truth_value, name_value, SpellsQualified, Either, SpellsNameValue, SpellsTextValue, SpellsTruthValue, SpellsReferring, SpellsNaming, SpellsTelling, SpellsQuoting, SpellsSimple}
 use Rattle.aadl_parse.specs.Terminals.{name_of}
 use Rattle.aadl_parse.specs.ValueTokens.{sign_of, number_of, text_of, truth_of}

@@ -17,9 +17,9 @@ use Rattle.aadl_parse.specs.Laws.{without-none}
 use Rattle.aadl_parse.specs.Refusals.{too_long, flawed}
 use Rattle.aadl_parse.specs.Rules.{told_before, flaw_told}
 use Rattle.aadl_parse.specs.Shapes.{Without}
-use Rattle.aadl_parse.specs.Stops.{HasTokens, stop_at}
+use Rattle.aadl_parse.specs.Stops.{IsLexed, stop_at}
 
-pub models-one : (bytes : List ℕ) (ts us : List (Placed Token)) (e f : Place) (c d : Stop) → HasTokens bytes ts e c → HasTokens bytes us f d → (ts ≡ us) × (e ≡ f) × (c ≡ d)
+pub models-one : (bytes : List ℕ) (ts us : List (Placed Token)) (e f : Place) (c d : Stop) → IsLexed bytes ts e c → IsLexed bytes us f d → (ts ≡ us) × (e ≡ f) × (c ≡ d)
 models-one bytes ts us e f c d h k =
     let one = tokens-one token_at skipped _ _ ts us e f h.behind k.behind h.lexed k.lexed in
     (one.0, one.1, h.stopped ∙ ap stop_at one.2 ∙ sym k.stopped)

@@ -24,8 +24,7 @@ use Rattle.aadl_tree.specs.declared.package.Import.{Import}
 use Rattle.aadl_tree.specs.declared.package.Package.{Package}
 use Rattle.aadl_tree.specs.declared.subcomponent.Subcomponent.{Subcomponent}
 use Rattle.aadl_tree.specs.declared.value.PropertyValue.{PropertyValue}
-use Rattle.aadl_parse.specs.declared.choice.Choice.{Choice}
-use Rattle.aadl_parse.specs.declared.choice.Choice.TheVariants.{First, Second}
+use Rattle.aadl_parse.specs.Choice.{Choice, First, Second}
 
 abbrev pub either_of : {X : Type 0} → Choice X X → X
 either_of (First x) = x

@@ -11,7 +11,7 @@ use Rattle.aadl_parse.specs.declared.stop.Stop.TheVariants as stop
 use Rattle.aadl_parse.specs.Flaws.{flaw_at}
 use Rattle.aadl_parse.specs.Grammar.{SpellsPackage}
 use Rattle.aadl_parse.specs.Refusals.{too_long, unexpected_there, flawed}
-use Rattle.aadl_parse.specs.Stops.{HasTokens}
+use Rattle.aadl_parse.specs.Stops.{IsLexed}
 
 -- what is told of a text before its tokens are looked at: that it has too many bytes
 abbrev pub told_before : List ℕ → Option Refusal
@@ -25,7 +25,7 @@ flaw_told ts i = option_and_then (λ t. option_map (flawed t.place) (flaw_at ts 
 abbrev pub text_rules : {X : Type 0} → (X → List (Placed Token) → Type 0) → Rules (Placed Token) Stop X
 text_rules A = record {
   before = told_before;
-  lexed = HasTokens;
+  lexed = IsLexed;
   whole = λ cause. cause ≡ stop.End;
   spelled = λ end. A;
   flaw = flaw_told;

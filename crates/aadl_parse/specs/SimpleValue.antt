@@ -8,7 +8,7 @@ use Rattle.hw_text.specs.Reading.{Begins}
 use Rattle.aadl_tree.specs.declared.class.Class.{Class}
 use Rattle.aadl_tree.specs.declared.class_name.ClassName.{ClassName}
 use Rattle.aadl_tree.specs.declared.class.Class.TheVariants.{Base, Model}
-use Rattle.aadl_tree.specs.declared.class.BaseType.{BaseType}
+use Rattle.hw_text.specs.declared.base_type.BaseType.{BaseType}
 use Rattle.aadl_tree.specs.declared.names.Named.{Named}
 use Rattle.aadl_tree.specs.declared.names.QualifiedName.{QualifiedName}
 use Rattle.aadl_tree.specs.declared.names.Path.{Path}
@@ -22,8 +22,7 @@ use Rattle.aadl_tree.specs.declared.word.Word.TheVariants as word
 use Rattle.aadl_tree.specs.declared.value.Quantity.{Quantity}
 use Rattle.aadl_tree.specs.declared.value.PropertyValue.{PropertyValue}
 use Rattle.aadl_tree.specs.declared.value.PropertyValue.TheVariants as value
-use Rattle.aadl_parse.specs.declared.choice.Choice.{Choice}
-use Rattle.aadl_parse.specs.declared.choice.Choice.TheVariants.{First, Second}
+use Rattle.aadl_parse.specs.Choice.{Choice, First, Second}
 use Rattle.aadl_parse.specs.Builds.{either_of}
 use Rattle.aadl_parse.specs.Laws.{one-begins, two-begins, maybe_then-begins, made-begins, either-begins, symbol-shaped}
 use Rattle.aadl_parse.specs.Shapes.{one_of, symbol_of}
@@ -63,11 +62,16 @@ first_class c = First c
 abbrev pub second_class : Class → Choice Class Class
 second_class c = Second c
 
--- "base_types" "::" BASE, or NAME { "::" NAME } [ "." NAME ] whose first name is another
+-- "base_types" "::" BASE
+abbrev pub SpellsBaseClass : Class → List (Placed Token) → Type 0
+SpellsBaseClass = Made base_class_of (One base_package_of ⋅ (Symbol (codes "::") ⋅ One base_of))
+
+-- NAME { "::" NAME } [ "." NAME ], whose first name is not `base_types`
+abbrev pub SpellsModelClass : Class → List (Placed Token) → Type 0
+SpellsModelClass = Made model_class_of ((One class_name_of ⋅ Each (Made name_behind (Symbol (codes "::") ⋅ One name_of))) ⋅ Maybe (Made name_behind (Symbol (codes ".") ⋅ One name_of)))
+
 abbrev pub SpellsClass : Class → List (Placed Token) → Type 0
-SpellsClass =
-    Made either_of (Made first_class (Made base_class_of (One base_package_of ⋅ (Symbol (codes "::") ⋅ One base_of))) ∣
-    Made second_class (Made model_class_of ((One class_name_of ⋅ Each (Made name_behind (Symbol (codes "::") ⋅ One name_of))) ⋅ Maybe (Made name_behind (Symbol (codes ".") ⋅ One name_of)))))
+SpellsClass = Made either_of (Made first_class SpellsBaseClass ∣ Made second_class SpellsModelClass)
 
 abbrev pub quantity_of : Option Sign × (Number × Option (List ℕ)) → Quantity
 quantity_of p = record { sign = p.0; number = p.1.0; unit = p.1.1 }

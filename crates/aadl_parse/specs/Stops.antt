@@ -21,7 +21,7 @@ start = record { line = 1; column = 1 }
 
 -- a text has these tokens, each the longest that stands there, with white space and comments between them; they end at this place, for
 -- this cause
-pub record HasTokens (bytes : List ℕ) (tokens : List (Placed Token)) (end : Place) (cause : Stop) : Type 0 where
+pub record IsLexed (bytes : List ℕ) (tokens : List (Placed Token)) (end : Place) (cause : Stop) : Type 0 where
   pub behind : List ℕ
   pub lexed : Lexes token_at skipped start bytes tokens end behind
   pub stopped : cause ≡ stop_at behind

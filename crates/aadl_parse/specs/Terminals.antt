@@ -19,10 +19,11 @@ use Rattle.aadl_tree.specs.declared.category.Category.{Category}
 use Rattle.aadl_tree.specs.declared.category.Category.TheVariants as category
 use Rattle.aadl_tree.specs.declared.feature.Direction.{Direction}
 use Rattle.aadl_tree.specs.declared.feature.Direction.TheVariants as direction
-use Rattle.aadl_tree.specs.declared.class.BaseType.{BaseType}
-use Rattle.aadl_tree.specs.declared.class.BaseType.TheVariants as base
+use Rattle.hw_text.specs.BaseTypes.{base_name, base_named}
+use Rattle.hw_text.specs.declared.base_type.BaseType.{BaseType}
+use Rattle.hw_text.specs.declared.base_type.BaseType.TheVariants as base
 use Rattle.aadl_tree.specs.declared.class_name.ClassName.{ClassName}
-use Rattle.aadl_tree.specs.Classes.{is_base_package, base_name}
+use Rattle.aadl_tree.specs.Classes.{is_base_package}
 use Rattle.aadl_tree.specs.ClassNames.{own_name_by, own_name}
 use Rattle.aadl_parse.specs.Shapes.{shape, one_of}
 
@@ -59,19 +60,7 @@ class_name_at n at = option_map (λ own. (own, at)) (own_name n)
 abbrev pub class_name_of : Placed Token → Option (ClassName × Place)
 class_name_of t = on_name class_name_at t.token t.place
 
-abbrev pub all_bases : List BaseType
-all_bases =
-    base.Boolean ∷ base.Integer8 ∷ base.Integer16 ∷ base.Integer32 ∷ base.Integer64 ∷ base.Unsigned8 ∷ base.Unsigned16 ∷
-    base.Unsigned32 ∷ base.Unsigned64 ∷ []
-
--- the first of these base types that has this name
-abbrev pub base_among : List BaseType → List ℕ → Option BaseType
-base_among [] n = None
-base_among (b ∷ bs) n = if bytes_eq n (base_name b) then Some b else base_among bs n
-
-unfoldable pub base_named : List ℕ → Option BaseType
-base_named n = base_among all_bases n
-
+-- the base type of this name
 abbrev pub base_of : Placed Token → Option BaseType
 base_of t = on_name (λ n at. base_named n) t.token t.place
 

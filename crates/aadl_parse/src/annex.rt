@@ -1,74 +1,59 @@
-//! The production of annexes.
+//! Reading annexes.
 
-ghost use Rattle.std.specs.Prelude.{refl};
-ghost use Rattle.aadl_parse.specs.Builds.{annex_of};
+ghost use Rattle.std.specs.Prelude.{[], ◌∷◌, codes, refl};
 ghost use Rattle.aadl_parse.specs.Grammar.{SpellsAnnex};
+ghost use Rattle.aadl_parse.specs.Parts.{an_annex};
 
-use crate::leaf::Leaf;
-use crate::made::{Production, Text};
+use crate::leaf::read_one;
 use crate::name_token::NameAt;
 use crate::part::{Behind, Closed, Part};
-use crate::sequence::Then;
-use crate::shape::Sign;
-use crate::symbol::points::Semicolon;
-use crate::symbol::sections;
+use crate::symbols::{keyword, sign, stands_word};
 use crate::word_token::AnnexBody;
-use aadl_tree::{Annex, Token};
+use aadl_tree::{Annex, Mark, Token, Word};
 use hw_text::{Cursor, Placed, ReadFault};
 use std::alloc::Global;
 
 /// "annex" NAME ( ANNEX | "none" ) ";"
-pub struct AnnexText;
+pub struct Annexes;
 
-impl Production for AnnexText {
-    type Parts = Then<
-        Sign<sections::Annex>,
-        Then<Leaf<NameAt>, Then<Leaf<AnnexBody>, Sign<Semicolon>>>,
-    >;
-
-    type Value = Annex;
-
-    ghost build = { annex_of };
-
-    fn build(_alloc: Global, parts: <Self::Parts as Part>::Value) -> Self::Value {
-        let ((), (name, ((text, text_place), ()))) = parts;
-        Annex {
-            name,
-            text,
-            text_place,
-        }
-    }
-}
-
-impl Part for AnnexText {
+impl Part for Annexes {
     type Value = Annex;
 
     ghost spells = { SpellsAnnex };
 
-    ghost starts = { ⟦<Text<AnnexText> as Part>⟧.starts };
+    ghost starts = { codes "annex" ∷ [] };
 
-    ghost goes_on = { ⟦<Text<AnnexText> as Part>⟧.goes_on };
+    ghost goes_on = { [] };
 
-    ghost sample = { ⟦<Text<AnnexText> as Part>⟧.sample };
+    ghost sample = { an_annex.sample };
 
-    ghost begun = { ⟦<Text<AnnexText> as Part>⟧.begun };
+    ghost begun = { an_annex.begins };
 
     fn stands(tokens: &Cursor<'_, Placed<Token>>) -> bool {
-        <Text<AnnexText>>::stands(tokens)
+        stands_word(tokens, Word::Annex)
     }
 
     fn read(
         alloc: Global,
         tokens: &mut Cursor<'_, Placed<Token>>,
     ) -> Result<Self::Value, ReadFault> {
-        <Text<AnnexText>>::read(alloc, tokens)
+        keyword(tokens, Word::Annex)?;
+        let name = read_one::<NameAt>(alloc, tokens)?;
+        let body = read_one::<AnnexBody>(alloc, tokens)?;
+        sign(tokens, Mark::Semicolon)?;
+        let (text, text_place) = body;
+        Ok(Annex {
+            name,
+            text,
+            text_place,
+        })
     }
 }
 
-impl Closed for AnnexText {
+impl Closed for Annexes {
     ghost closed = { refl };
 }
 
-impl Behind<AnnexText> for AnnexText {
+impl Behind<Annexes> for Annexes {
     ghost apart = { refl };
 }

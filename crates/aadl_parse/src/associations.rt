@@ -1,136 +1,114 @@
-//! The productions of property associations.
+//! Reading property associations.
 
-ghost use Rattle.std.specs.Prelude.{refl, is_some};
-ghost use Rattle.aadl_parse.specs.Builds.{or_none, behind_mark, association_of};
-ghost use Rattle.aadl_parse.specs.Grammar.{SpellsAssociation};
+ghost use Rattle.std.specs.Prelude.{[], ◌∷◌, codes, refl};
+ghost use Rattle.hw_text.specs.Language.{Maybe};
+ghost use Rattle.hw_text.specs.Reading.{Reads};
+ghost use Rattle.aadl_parse.specs.Grammar.{BehindComma, SpellsAssociation};
+ghost use Rattle.aadl_parse.specs.Parts.{a_value, behind_comma, an_association};
+ghost use Rattle.aadl_parse.specs.Shapes.{Without};
+ghost use Rattle.aadl_parse.specs.SimpleValue.{Symbol, value_goes_on};
+ghost use Rattle.aadl_parse.specs.Terminals.{name_shapes};
+ghost use Rattle.aadl_parse.specs.ValueText.{SpellsValue};
 
-use crate::leaf::Leaf;
-use crate::made::{Production, Text};
-use crate::names::QualifiedText;
+use crate::leaf::{read_one, stands};
+use crate::name_token::NameAt;
+use crate::names::qualified;
 use crate::operator_mark::OperatorMark;
-use crate::part::{Behind, Beside, Closed, Part};
+use crate::part::{Behind, Closed, Part};
 use crate::paths::AppliesText;
-use crate::section_rows::or_none;
-use crate::sequence::{Before, Then};
-use crate::shape::Sign;
-use crate::surround::{ManyThen, OptionalThen};
-use crate::symbol::points::{Comma, Semicolon};
-use crate::symbol::settings::Constant;
-use crate::value_text::ValueText;
-use aadl_tree::{Association, PropertyValue, Token};
+use crate::repeat::{each, optional};
+use crate::section::{Member, or_none};
+use crate::symbols::{keyword, sign, stands_mark, stands_word};
+use crate::value::read_value;
+use aadl_tree::{Association, Mark, PropertyValue, Token, Word};
 use hw_text::{Cursor, Placed, ReadFault};
 use std::alloc::Global;
 
 /// "," value
-pub struct CommaValue;
+struct CommaValue;
 
-impl Production for CommaValue {
-    type Parts = Then<Sign<Comma>, ValueText>;
-
+impl Part for CommaValue {
     type Value = PropertyValue;
 
-    ghost build = { behind_mark };
+    ghost spells = { BehindComma SpellsValue };
 
-    fn build(_alloc: Global, parts: <Self::Parts as Part>::Value) -> Self::Value {
-        let ((), value) = parts;
-        value
-    }
-}
+    ghost starts = { codes "," ∷ [] };
 
-impl Behind<Text<CommaValue>> for Text<CommaValue> {
-    ghost apart = { refl };
-}
+    ghost goes_on = { value_goes_on };
 
-impl Behind<AppliesText> for Sign<Semicolon> {
-    ghost apart = { refl };
-}
+    ghost sample = { (behind_comma a_value).sample };
 
-impl Beside<AppliesText> for Sign<Semicolon> {
-    ghost other = { refl };
-}
-
-/// [ "applies" "to" path { "," path } ] ";"
-type Appliance = OptionalThen<AppliesText, Sign<Semicolon>>;
-
-impl Behind<Text<CommaValue>> for Appliance {
-    ghost apart = { refl };
-}
-
-impl Beside<Text<CommaValue>> for Appliance {
-    ghost other = { refl };
-}
-
-/// { "," value } [ "applies" "to" path { "," path } ] ";"
-type OtherValues = ManyThen<Text<CommaValue>, Appliance>;
-
-impl Behind<ValueText> for OtherValues {
-    ghost apart = { refl };
-}
-
-/// value { "," value } [ "applies" "to" path { "," path } ] ";"
-type Values = Before<ValueText, OtherValues>;
-
-impl Behind<Sign<Constant>> for Values {
-    ghost apart = { refl };
-}
-
-impl Beside<Sign<Constant>> for Values {
-    ghost other = { refl };
-}
-
-/// ( "=>" | "+=>" ) [ "constant" ] value { "," value } [ "applies" "to" path { "," path } ] ";"
-type Setting = Then<Leaf<OperatorMark>, OptionalThen<Sign<Constant>, Values>>;
-
-impl Behind<Text<QualifiedText>> for Setting {
-    ghost apart = { refl };
-}
-
-/// pname ( "=>" | "+=>" ) [ "constant" ] value { "," value } [ "applies" "to" path { "," path } ] ";"
-pub struct AssociationText;
-
-impl Production for AssociationText {
-    type Parts = Before<Text<QualifiedText>, Setting>;
-
-    type Value = Association;
-
-    ghost build = { association_of };
-
-    fn build(alloc: Global, parts: <Self::Parts as Part>::Value) -> Self::Value {
-        let (property, (operator, (constant, (first, (others, (paths, ())))))) = parts;
-        Association {
-            property,
-            operator,
-            constant: constant.is_some(),
-            first,
-            others,
-            applies_to: or_none(alloc, paths),
-        }
-    }
-}
-
-impl Part for AssociationText {
-    type Value = Association;
-
-    ghost spells = { SpellsAssociation };
-
-    ghost starts = { ⟦<Text<AssociationText> as Part>⟧.starts };
-
-    ghost goes_on = { ⟦<Text<AssociationText> as Part>⟧.goes_on };
+    ghost begun = { (behind_comma a_value).begins };
 
     fn stands(tokens: &Cursor<'_, Placed<Token>>) -> bool {
-        <Text<AssociationText>>::stands(tokens)
+        stands_mark(tokens, Mark::Comma)
     }
 
     fn read(
         alloc: Global,
         tokens: &mut Cursor<'_, Placed<Token>>,
     ) -> Result<Self::Value, ReadFault> {
-        <Text<AssociationText>>::read(alloc, tokens)
+        sign(tokens, Mark::Comma)?;
+        let value = read_value(alloc, tokens)?;
+        Ok(value)
+    }
+}
+
+impl Behind<CommaValue> for CommaValue {
+    ghost apart = { refl };
+}
+
+/// Reads "constant", where it is ahead.
+fn constant(tokens: &mut Cursor<'_, Placed<Token>>) -> Result<Option<()>, ReadFault>
+    ensures { Reads (Maybe (Symbol (codes "constant"))) (Without (codes "constant" ∷ [])) tokens.old tokens.new result }
+{
+    if !stands_word(tokens, Word::Constant) {
+        return Ok(None);
+    }
+    keyword(tokens, Word::Constant)?;
+    Ok(Some(()))
+}
+
+/// pname ( "=>" | "+=>" ) [ "constant" ] value { "," value } [ "applies" "to" path { "," path } ] ";"
+pub struct AssociationText;
+
+impl Part for AssociationText {
+    type Value = Association;
+
+    ghost spells = { SpellsAssociation };
+
+    ghost starts = { name_shapes };
+
+    ghost goes_on = { [] };
+
+    ghost sample = { an_association.sample };
+
+    ghost begun = { an_association.begins };
+
+    fn stands(tokens: &Cursor<'_, Placed<Token>>) -> bool {
+        stands::<NameAt>(tokens)
     }
 
-    ghost sample = { ⟦<Text<AssociationText> as Part>⟧.sample };
-
-    ghost begun = { ⟦<Text<AssociationText> as Part>⟧.begun };
+    fn read(
+        alloc: Global,
+        tokens: &mut Cursor<'_, Placed<Token>>,
+    ) -> Result<Self::Value, ReadFault> {
+        let property = qualified(alloc, tokens)?;
+        let operator = read_one::<OperatorMark>(alloc, tokens)?;
+        let constant = constant(tokens)?;
+        let first = read_value(alloc, tokens)?;
+        let others = each::<CommaValue>(alloc, tokens)?;
+        let paths = optional::<AppliesText>(alloc, tokens)?;
+        sign(tokens, Mark::Semicolon)?;
+        Ok(Association {
+            property,
+            operator,
+            constant: constant.is_some(),
+            first,
+            others,
+            applies_to: or_none(alloc, paths),
+        })
+    }
 }
 
 impl Closed for AssociationText {
@@ -139,4 +117,8 @@ impl Closed for AssociationText {
 
 impl Behind<AssociationText> for AssociationText {
     ghost apart = { refl };
+}
+
+impl Member for AssociationText {
+    ghost listed = { refl };
 }

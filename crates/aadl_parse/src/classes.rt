@@ -1,111 +1,67 @@
-//! The productions of classifiers.
+//! Reading classifiers.
 
-ghost use Rattle.std.specs.Prelude.{refl};
-ghost use Rattle.aadl_tree.specs.declared.class.Class.TheVariants.{Base, Model};
-ghost use Rattle.aadl_parse.specs.Builds.{either_of};
-ghost use Rattle.aadl_parse.specs.SimpleValue.{base_class_of, model_class_of, SpellsClass};
+ghost use Rattle.std.specs.Prelude.{[], ◌∷◌, codes};
+ghost use Rattle.hw_text.specs.Language.{One, ◌⋅◌, Each, Made};
+ghost use Rattle.hw_text.specs.Reading.{Reads};
+ghost use Rattle.aadl_parse.specs.Parts.{class_goes_on};
+ghost use Rattle.aadl_parse.specs.Shapes.{Without};
+ghost use Rattle.aadl_parse.specs.SimpleValue.{Symbol, SpellsBaseClass, SpellsModelClass, SpellsClass, name_behind};
+ghost use Rattle.aadl_parse.specs.Terminals.{class_name_of, name_of};
 
-use crate::choice::{Either, either_of};
-use crate::leaf::Leaf;
-use crate::made::{Production, Text};
+use crate::leaf::{read_one, stands};
 use crate::name_token::{BaseName, BasePackage, ClassNameAt};
 use crate::names::{ColonName, DotName};
-use crate::part::{Behind, Beside, Closed, Part};
-use crate::sequence::Then;
-use crate::shape::Sign;
-use crate::surround::{WithMany, WithOptional};
-use crate::symbol::points::DoubleColon;
-use aadl_tree::{Class, ModelClass, Token};
-use hw_text::{Cursor, Placed, ReadFault};
+use crate::repeat::{each, optional};
+use crate::symbols::sign;
+use aadl_tree::{Class, ClassName, Mark, ModelClass, Token};
+use hw_text::{Cursor, Name, Place, Placed, ReadFault, Rows};
 use std::alloc::Global;
 
-/// "base_types" "::" BASE
-pub struct BaseText;
+/// Reads "base_types" "::" BASE.
+fn base_class(alloc: Global, tokens: &mut Cursor<'_, Placed<Token>>) -> Result<Class, ReadFault>
+    ensures { Reads SpellsBaseClass (Without []) tokens.old tokens.new result }
+{
+    let place = read_one::<BasePackage>(alloc, tokens)?;
+    sign(tokens, Mark::DoubleColon)?;
+    let base = read_one::<BaseName>(alloc, tokens)?;
+    Ok(Class::Base(place, base))
+}
 
-impl Production for BaseText {
-    type Parts = Then<Leaf<BasePackage>, Then<Sign<DoubleColon>, Leaf<BaseName>>>;
+/// Reads NAME { "::" NAME }, whose first name is not `base_types`.
+fn class_names(
+    alloc: Global,
+    tokens: &mut Cursor<'_, Placed<Token>>,
+) -> Result<((ClassName, Place), Rows<Name>), ReadFault>
+    ensures { Reads (One class_name_of ⋅ Each (Made name_behind (Symbol (codes "::") ⋅ One name_of))) (Without (codes "::" ∷ [])) tokens.old tokens.new result }
+{
+    let first = read_one::<ClassNameAt>(alloc, tokens)?;
+    let others = each::<ColonName>(alloc, tokens)?;
+    Ok((first, others))
+}
 
-    type Value = Class;
+/// Reads NAME { "::" NAME } [ "." NAME ], whose first name is not `base_types`.
+fn model_class(alloc: Global, tokens: &mut Cursor<'_, Placed<Token>>) -> Result<Class, ReadFault>
+    ensures { Reads SpellsModelClass (Without class_goes_on) tokens.old tokens.new result }
+{
+    let names = class_names(alloc, tokens)?;
+    let implementation = optional::<DotName>(alloc, tokens)?;
+    let ((first, place), others) = names;
+    Ok(Class::Model(ModelClass {
+        first,
+        place,
+        others,
+        implementation,
+    }))
+}
 
-    ghost build = { base_class_of };
-
-    fn build(_alloc: Global, parts: <Self::Parts as Part>::Value) -> Self::Value {
-        let (place, ((), base)) = parts;
-        Class::Base(place, base)
+/// Reads a base type, or a type of the model's own.
+pub fn class(alloc: Global, tokens: &mut Cursor<'_, Placed<Token>>) -> Result<Class, ReadFault>
+    ensures { Reads SpellsClass (Without class_goes_on) tokens.old tokens.new result }
+{
+    if stands::<BasePackage>(tokens) {
+        let base = base_class(alloc, tokens)?;
+        return Ok(base);
     }
-}
-
-type ClassNames = WithMany<Leaf<ClassNameAt>, Text<ColonName>>;
-
-impl Behind<Leaf<ClassNameAt>> for Text<ColonName> {
-    ghost apart = { refl };
-}
-
-impl Behind<ClassNames> for Text<DotName> {
-    ghost apart = { refl };
-}
-
-/// NAME { "::" NAME } [ "." NAME ], whose first name is not `base_types`
-pub struct ModelText;
-
-impl Production for ModelText {
-    type Parts = WithOptional<ClassNames, Text<DotName>>;
-
-    type Value = Class;
-
-    ghost build = { model_class_of };
-
-    fn build(_alloc: Global, parts: <Self::Parts as Part>::Value) -> Self::Value {
-        let (((first, place), others), implementation) = parts;
-        Class::Model(ModelClass {
-            first,
-            place,
-            others,
-            implementation,
-        })
-    }
-}
-
-impl Beside<Text<BaseText>> for Text<ModelText> {
-    ghost other = { refl };
-}
-
-/// A base type, or a type of the model's own.
-pub struct ClassText;
-
-impl Production for ClassText {
-    type Parts = Either<Text<BaseText>, Text<ModelText>>;
-
-    type Value = Class;
-
-    ghost build = { either_of };
-
-    fn build(_alloc: Global, parts: <Self::Parts as Part>::Value) -> Self::Value {
-        either_of(parts)
-    }
-}
-
-impl Part for ClassText {
-    type Value = Class;
-
-    ghost spells = { SpellsClass };
-
-    ghost starts = { ⟦<Text<ClassText> as Part>⟧.starts };
-
-    ghost goes_on = { ⟦<Text<ClassText> as Part>⟧.goes_on };
-
-    fn stands(tokens: &Cursor<'_, Placed<Token>>) -> bool {
-        <Text<ClassText>>::stands(tokens)
-    }
-
-    fn read(
-        alloc: Global,
-        tokens: &mut Cursor<'_, Placed<Token>>,
-    ) -> Result<Self::Value, ReadFault> {
-        <Text<ClassText>>::read(alloc, tokens)
-    }
-
-    ghost sample = { ⟦<Text<ClassText> as Part>⟧.sample };
-
-    ghost begun = { ⟦<Text<ClassText> as Part>⟧.begun };
+    let model = model_class(alloc, tokens)?;
+    Ok(model)
 }

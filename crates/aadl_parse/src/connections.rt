@@ -1,126 +1,77 @@
-//! The productions of connections.
+//! Reading connections.
 
-ghost use Rattle.std.specs.Prelude.{refl};
-ghost use Rattle.aadl_parse.specs.Builds.{connection_end_of, connection_of};
-ghost use Rattle.aadl_parse.specs.Grammar.{SpellsDestination, SpellsConnection};
+ghost use Rattle.std.specs.Prelude.{[], ◌∷◌, codes, refl};
+ghost use Rattle.hw_text.specs.Reading.{Reads};
+ghost use Rattle.aadl_parse.specs.Grammar.{SpellsEnd, SpellsConnection};
+ghost use Rattle.aadl_parse.specs.Parts.{a_connection};
+ghost use Rattle.aadl_parse.specs.Shapes.{Without};
+ghost use Rattle.aadl_parse.specs.Terminals.{name_shapes};
 
-use crate::leaf::Leaf;
-use crate::made::{Production, Text};
+use crate::leaf::{read_one, stands};
 use crate::name_token::NameAt;
 use crate::names::DotName;
-use crate::own::EndingText;
+use crate::own::ending;
 use crate::part::{Behind, Part};
-use crate::sequence::{Before, Then};
-use crate::shape::Sign;
-use crate::surround::WithOptional;
-use crate::symbol::kinds::Port;
-use crate::symbol::operators::Arrow;
-use crate::symbol::points::Colon;
-use aadl_tree::{Connection, ConnectionEnd, Token};
+use crate::repeat::optional;
+use crate::section::Member;
+use crate::symbols::{keyword, sign};
+use aadl_tree::{Connection, ConnectionEnd, Mark, Token, Word};
 use hw_text::{Cursor, Placed, ReadFault};
 use std::alloc::Global;
 
-/// NAME [ "." NAME ]
-pub struct EndText;
-
-impl Production for EndText {
-    type Parts = WithOptional<Leaf<NameAt>, Text<DotName>>;
-
-    type Value = ConnectionEnd;
-
-    ghost build = { connection_end_of };
-
-    fn build(_alloc: Global, parts: <Self::Parts as Part>::Value) -> Self::Value {
-        let (first, port) = parts;
-        ConnectionEnd { first, port }
-    }
-}
-
-/// An arrow, and what stands behind it.
-pub struct Destination;
-
-impl Part for Destination {
-    type Value = <Then<Sign<Arrow>, Before<Text<EndText>, EndingText>> as Part>::Value;
-
-    ghost spells = { SpellsDestination };
-
-    ghost starts = { ⟦<Then<Sign<Arrow>, Before<Text<EndText>, EndingText>> as Part>⟧.starts };
-
-    ghost goes_on = { ⟦<Then<Sign<Arrow>, Before<Text<EndText>, EndingText>> as Part>⟧.goes_on };
-
-    ghost sample = { ⟦<Then<Sign<Arrow>, Before<Text<EndText>, EndingText>> as Part>⟧.sample };
-
-    ghost begun = { ⟦<Then<Sign<Arrow>, Before<Text<EndText>, EndingText>> as Part>⟧.begun };
-
-    fn stands(tokens: &Cursor<'_, Placed<Token>>) -> bool {
-        <Then<Sign<Arrow>, Before<Text<EndText>, EndingText>>>::stands(tokens)
-    }
-
-    fn read(
-        alloc: Global,
-        tokens: &mut Cursor<'_, Placed<Token>>,
-    ) -> Result<Self::Value, ReadFault> {
-        <Then<Sign<Arrow>, Before<Text<EndText>, EndingText>>>::read(alloc, tokens)
-    }
-}
-
-impl Behind<Text<EndText>> for EndingText {
-    ghost apart = { refl };
-}
-
-impl Behind<Text<EndText>> for Destination {
-    ghost apart = { refl };
+/// Reads NAME [ "." NAME ].
+fn tip(alloc: Global, tokens: &mut Cursor<'_, Placed<Token>>) -> Result<ConnectionEnd, ReadFault>
+    ensures { Reads SpellsEnd (Without (codes "." ∷ [])) tokens.old tokens.new result }
+{
+    let first = read_one::<NameAt>(alloc, tokens)?;
+    let port = optional::<DotName>(alloc, tokens)?;
+    Ok(ConnectionEnd { first, port })
 }
 
 /// NAME ":" "port" tip "->" tip [ own ] ";"
 pub struct ConnectionText;
-
-impl Production for ConnectionText {
-    type Parts = Then<
-        Leaf<NameAt>,
-        Then<Sign<Colon>, Then<Sign<Port>, Before<Text<EndText>, Destination>>>,
-    >;
-
-    type Value = Connection;
-
-    ghost build = { connection_of };
-
-    fn build(_alloc: Global, parts: <Self::Parts as Part>::Value) -> Self::Value {
-        let (name, ((), ((), (from, ((), (to, own)))))) = parts;
-        Connection {
-            name,
-            from,
-            to,
-            own,
-        }
-    }
-}
 
 impl Part for ConnectionText {
     type Value = Connection;
 
     ghost spells = { SpellsConnection };
 
-    ghost starts = { ⟦<Text<ConnectionText> as Part>⟧.starts };
+    ghost starts = { name_shapes };
 
-    ghost goes_on = { ⟦<Text<ConnectionText> as Part>⟧.goes_on };
+    ghost goes_on = { [] };
 
-    ghost sample = { ⟦<Text<ConnectionText> as Part>⟧.sample };
+    ghost sample = { a_connection.sample };
 
-    ghost begun = { ⟦<Text<ConnectionText> as Part>⟧.begun };
+    ghost begun = { a_connection.begins };
 
     fn stands(tokens: &Cursor<'_, Placed<Token>>) -> bool {
-        <Text<ConnectionText>>::stands(tokens)
+        stands::<NameAt>(tokens)
     }
 
     fn read(
         alloc: Global,
         tokens: &mut Cursor<'_, Placed<Token>>,
     ) -> Result<Self::Value, ReadFault> {
-        <Text<ConnectionText>>::read(alloc, tokens)
+        let name = read_one::<NameAt>(alloc, tokens)?;
+        sign(tokens, Mark::Colon)?;
+        keyword(tokens, Word::Port)?;
+        let from = tip(alloc, tokens)?;
+        sign(tokens, Mark::Arrow)?;
+        let to = tip(alloc, tokens)?;
+        let own = ending(alloc, tokens)?;
+        Ok(Connection {
+            name,
+            from,
+            to,
+            own,
+        })
     }
 }
 
 impl Behind<ConnectionText> for ConnectionText {
     ghost apart = { refl };
+}
+
+impl Member for ConnectionText {
+    ghost listed = { refl };
 }

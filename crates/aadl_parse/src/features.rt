@@ -1,76 +1,64 @@
-//! The production of features.
+//! Reading features.
 
-ghost use Rattle.std.specs.Prelude.{refl};
-ghost use Rattle.aadl_parse.specs.Builds.{feature_of};
+ghost use Rattle.std.specs.Prelude.{[], refl};
 ghost use Rattle.aadl_parse.specs.Grammar.{SpellsFeature};
+ghost use Rattle.aadl_parse.specs.Parts.{a_feature};
+ghost use Rattle.aadl_parse.specs.Terminals.{name_shapes};
 
-use crate::leaf::Leaf;
-use crate::made::{Production, Text};
+use crate::leaf::{read_one, stands};
 use crate::name_token::NameAt;
-use crate::own::EndingText;
+use crate::own::ending;
 use crate::part::{Behind, Part};
-use crate::port_kinds::KindText;
-use crate::sequence::{Before, Then};
-use crate::shape::Sign;
-use crate::symbol::points::Colon;
+use crate::port_kinds::kind;
+use crate::section::Member;
+use crate::symbols::sign;
 use crate::word_token::DirectionWord;
-use aadl_tree::{Feature, Token};
+use aadl_tree::{Feature, Mark, Token};
 use hw_text::{Cursor, Placed, ReadFault};
 use std::alloc::Global;
 
-impl Behind<KindText> for EndingText {
-    ghost apart = { refl };
-}
-
 /// NAME ":" ( "in" | "out" ) kind [ own ] ";"
 pub struct FeatureText;
-
-impl Production for FeatureText {
-    type Parts = Then<
-        Leaf<NameAt>,
-        Then<Sign<Colon>, Then<Leaf<DirectionWord>, Before<KindText, EndingText>>>,
-    >;
-
-    type Value = Feature;
-
-    ghost build = { feature_of };
-
-    fn build(_alloc: Global, parts: <Self::Parts as Part>::Value) -> Self::Value {
-        let (name, ((), (direction, (kind, own)))) = parts;
-        Feature {
-            name,
-            direction,
-            kind,
-            own,
-        }
-    }
-}
 
 impl Part for FeatureText {
     type Value = Feature;
 
     ghost spells = { SpellsFeature };
 
-    ghost starts = { ⟦<Text<FeatureText> as Part>⟧.starts };
+    ghost starts = { name_shapes };
 
-    ghost goes_on = { ⟦<Text<FeatureText> as Part>⟧.goes_on };
+    ghost goes_on = { [] };
 
-    ghost sample = { ⟦<Text<FeatureText> as Part>⟧.sample };
+    ghost sample = { a_feature.sample };
 
-    ghost begun = { ⟦<Text<FeatureText> as Part>⟧.begun };
+    ghost begun = { a_feature.begins };
 
     fn stands(tokens: &Cursor<'_, Placed<Token>>) -> bool {
-        <Text<FeatureText>>::stands(tokens)
+        stands::<NameAt>(tokens)
     }
 
     fn read(
         alloc: Global,
         tokens: &mut Cursor<'_, Placed<Token>>,
     ) -> Result<Self::Value, ReadFault> {
-        <Text<FeatureText>>::read(alloc, tokens)
+        let name = read_one::<NameAt>(alloc, tokens)?;
+        sign(tokens, Mark::Colon)?;
+        let direction = read_one::<DirectionWord>(alloc, tokens)?;
+        let kind = kind(alloc, tokens)?;
+        let own = ending(alloc, tokens)?;
+        Ok(Feature {
+            name,
+            direction,
+            kind,
+            own,
+        })
     }
 }
 
 impl Behind<FeatureText> for FeatureText {
     ghost apart = { refl };
+}
+
+impl Member for FeatureText {
+    ghost listed = { refl };
 }

@@ -1,123 +1,81 @@
-//! The production of imports.
+//! Reading imports.
 
-ghost use Rattle.std.specs.Prelude.{refl};
-ghost use Rattle.aadl_parse.specs.Builds.{behind_mark, import_of};
-ghost use Rattle.aadl_parse.specs.Grammar.{SpellsImport};
+ghost use Rattle.std.specs.Prelude.{[], ◌∷◌, codes, refl};
+ghost use Rattle.aadl_parse.specs.Grammar.{BehindComma, SpellsImport};
+ghost use Rattle.aadl_parse.specs.Parts.{a_qualified, behind_comma, an_import};
+ghost use Rattle.aadl_parse.specs.SimpleValue.{SpellsQualified};
 
-use crate::made::{Production, Text};
-use crate::names::QualifiedText;
-use crate::part::{Behind, Beside, Closed, Part};
-use crate::sequence::{Before, Then};
-use crate::shape::Sign;
-use crate::surround::ManyThen;
-use crate::symbol::points::{Comma, Semicolon};
-use crate::symbol::sections::With;
-use aadl_tree::{Import, QualifiedName, Token};
+use crate::names::qualified;
+use crate::part::{Behind, Closed, Part};
+use crate::repeat::each;
+use crate::symbols::{keyword, sign, stands_mark, stands_word};
+use aadl_tree::{Import, Mark, QualifiedName, Token, Word};
 use hw_text::{Cursor, Placed, ReadFault};
 use std::alloc::Global;
 
 /// "," pname
-pub struct CommaQualified;
+struct CommaQualified;
 
-impl Production for CommaQualified {
-    type Parts = Then<Sign<Comma>, Text<QualifiedText>>;
-
+impl Part for CommaQualified {
     type Value = QualifiedName;
 
-    ghost build = { behind_mark };
+    ghost spells = { BehindComma SpellsQualified };
 
-    fn build(_alloc: Global, parts: <Self::Parts as Part>::Value) -> Self::Value {
-        let ((), name) = parts;
-        name
-    }
-}
+    ghost starts = { codes "," ∷ [] };
 
-impl Behind<Text<CommaQualified>> for Text<CommaQualified> {
-    ghost apart = { refl };
-}
+    ghost goes_on = { codes "::" ∷ [] };
 
-impl Behind<Text<CommaQualified>> for Sign<Semicolon> {
-    ghost apart = { refl };
-}
+    ghost sample = { (behind_comma a_qualified).sample };
 
-impl Beside<Text<CommaQualified>> for Sign<Semicolon> {
-    ghost other = { refl };
-}
-
-/// { "," pname } ";"
-pub struct OtherImports;
-
-impl Part for OtherImports {
-    type Value = <ManyThen<Text<CommaQualified>, Sign<Semicolon>> as Part>::Value;
-
-    ghost spells = { ⟦<ManyThen<Text<CommaQualified>, Sign<Semicolon>> as Part>⟧.spells };
-
-    ghost starts = { ⟦<ManyThen<Text<CommaQualified>, Sign<Semicolon>> as Part>⟧.starts };
-
-    ghost goes_on = { ⟦<ManyThen<Text<CommaQualified>, Sign<Semicolon>> as Part>⟧.goes_on };
-
-    ghost sample = { ⟦<ManyThen<Text<CommaQualified>, Sign<Semicolon>> as Part>⟧.sample };
-
-    ghost begun = { ⟦<ManyThen<Text<CommaQualified>, Sign<Semicolon>> as Part>⟧.begun };
+    ghost begun = { (behind_comma a_qualified).begins };
 
     fn stands(tokens: &Cursor<'_, Placed<Token>>) -> bool {
-        <ManyThen<Text<CommaQualified>, Sign<Semicolon>>>::stands(tokens)
+        stands_mark(tokens, Mark::Comma)
     }
 
     fn read(
         alloc: Global,
         tokens: &mut Cursor<'_, Placed<Token>>,
     ) -> Result<Self::Value, ReadFault> {
-        <ManyThen<Text<CommaQualified>, Sign<Semicolon>>>::read(alloc, tokens)
+        sign(tokens, Mark::Comma)?;
+        let name = qualified(alloc, tokens)?;
+        Ok(name)
     }
 }
 
-impl Behind<Text<QualifiedText>> for Sign<Semicolon> {
-    ghost apart = { refl };
-}
-
-impl Behind<Text<QualifiedText>> for OtherImports {
+impl Behind<CommaQualified> for CommaQualified {
     ghost apart = { refl };
 }
 
 /// "with" pname { "," pname } ";"
 pub struct ImportText;
 
-impl Production for ImportText {
-    type Parts = Then<Sign<With>, Before<Text<QualifiedText>, OtherImports>>;
-
-    type Value = Import;
-
-    ghost build = { import_of };
-
-    fn build(_alloc: Global, parts: <Self::Parts as Part>::Value) -> Self::Value {
-        let ((), (first, (others, ()))) = parts;
-        Import { first, others }
-    }
-}
-
 impl Part for ImportText {
     type Value = Import;
 
     ghost spells = { SpellsImport };
 
-    ghost starts = { ⟦<Text<ImportText> as Part>⟧.starts };
+    ghost starts = { codes "with" ∷ [] };
 
-    ghost goes_on = { ⟦<Text<ImportText> as Part>⟧.goes_on };
+    ghost goes_on = { [] };
 
-    ghost sample = { ⟦<Text<ImportText> as Part>⟧.sample };
+    ghost sample = { an_import.sample };
 
-    ghost begun = { ⟦<Text<ImportText> as Part>⟧.begun };
+    ghost begun = { an_import.begins };
 
     fn stands(tokens: &Cursor<'_, Placed<Token>>) -> bool {
-        <Text<ImportText>>::stands(tokens)
+        stands_word(tokens, Word::With)
     }
 
     fn read(
         alloc: Global,
         tokens: &mut Cursor<'_, Placed<Token>>,
     ) -> Result<Self::Value, ReadFault> {
-        <Text<ImportText>>::read(alloc, tokens)
+        keyword(tokens, Word::With)?;
+        let first = qualified(alloc, tokens)?;
+        let others = each::<CommaQualified>(alloc, tokens)?;
+        sign(tokens, Mark::Semicolon)?;
+        Ok(Import { first, others })
     }
 }
 

@@ -3,9 +3,9 @@
 ghost use Rattle.std.specs.Prelude.{◌≡◌, ℕ, List, [], Option, Some, true, refl, IfOk};
 ghost use Rattle.hw_text.specs.declared.placed.Placed.{Placed};
 ghost use Rattle.hw_text.specs.Language.{One};
-ghost use Rattle.hw_text.specs.Reading.{ahead, begins};
+ghost use Rattle.hw_text.specs.Reading.{Reads, ahead, begins};
 ghost use Rattle.aadl_tree.specs.declared.token.Token.{Token};
-ghost use Rattle.aadl_parse.specs.Shapes.{one_of};
+ghost use Rattle.aadl_parse.specs.Shapes.{one_of, Without};
 ghost use Rattle.aadl_parse.specs.Laws.{one-sample, one-begins};
 
 use crate::part::{Closed, Part};
@@ -50,22 +50,14 @@ impl<T: Terminal> Part for Leaf<T> {
     ghost goes_on = { [] };
 
     fn stands(tokens: &Cursor<'_, Placed<Token>>) -> bool {
-        match tokens.peek() {
-            Some(token) => T::is_shaped(token),
-            None => false,
-        }
+        stands::<T>(tokens)
     }
 
     fn read(
         alloc: Global,
         tokens: &mut Cursor<'_, Placed<Token>>,
     ) -> Result<Self::Value, ReadFault> {
-        let found = value_ahead::<T>(alloc, tokens)?;
-        let Some(value) = found else {
-            return Err(ReadFault::Syntax);
-        };
-        tokens.pass();
-        Ok(value)
+        read_one::<T>(alloc, tokens)
     }
 
     ghost sample = { one-sample T.value T.sample };
@@ -88,4 +80,29 @@ fn value_ahead<T: Terminal>(
         Some(token) => T::value(alloc, token),
         None => Ok(None),
     }
+}
+
+/// Whether a token of one of the kind's shapes is ahead.
+pub fn stands<T: Terminal>(tokens: &Cursor<'_, Placed<Token>>) -> bool
+    ensures { result ≡ begins (one_of T.shapes) tokens.now }
+{
+    match tokens.peek() {
+        Some(token) => T::is_shaped(token),
+        None => false,
+    }
+}
+
+/// Reads a token of the kind.
+pub fn read_one<T: Terminal>(
+    alloc: Global,
+    tokens: &mut Cursor<'_, Placed<Token>>,
+) -> Result<T::Value, ReadFault>
+    ensures { Reads (One T.value) (Without []) tokens.old tokens.new result }
+{
+    let found = value_ahead::<T>(alloc, tokens)?;
+    let Some(value) = found else {
+        return Err(ReadFault::Syntax);
+    };
+    tokens.pass();
+    Ok(value)
 }

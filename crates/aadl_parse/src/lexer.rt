@@ -3,7 +3,7 @@
 ghost use Rattle.std.specs.Prelude.{◌≡◌, ◌<◌, length, IfOk, IfSome};
 ghost use Rattle.std.specs.Option.{option_map};
 ghost use Rattle.aadl_tree.specs.Tokens.{mark_token, token_at};
-ghost use Rattle.aadl_parse.specs.Stops.{HasTokens};
+ghost use Rattle.aadl_parse.specs.Stops.{IsLexed};
 
 use crate::annex_text::annex_token;
 use crate::number::number_token;
@@ -18,7 +18,7 @@ use std::alloc::Global;
 
 /// The tokens at the front of a text.
 #[derive(Debug, Drop)]
-pub struct Lexed {
+pub struct ModelTokens {
     pub tokens: Rows<Placed<Token>>,
     /// Where the tokens end.
     pub end: Place,
@@ -27,8 +27,8 @@ pub struct Lexed {
 }
 
 /// The tokens of a text, as far as it consists of tokens, and why they end.
-pub fn read_tokens(alloc: Global, bytes: &[u8]) -> Result<Lexed, NoMemory>
-    ensures { IfOk result (λ lexed. HasTokens bytes.now lexed.tokens lexed.end lexed.stop) }
+pub fn read_tokens(alloc: Global, bytes: &[u8]) -> Result<ModelTokens, NoMemory>
+    ensures { IfOk result (λ lexed. IsLexed bytes.now lexed.tokens lexed.end lexed.stop) }
 {
     let mut tokens = Rows::new(alloc);
     let mut rest = skipped(bytes);
@@ -39,7 +39,7 @@ pub fn read_tokens(alloc: Global, bytes: &[u8]) -> Result<Lexed, NoMemory>
         place = place_of_rest(place, rest, next);
         rest = next;
     }
-    Ok(Lexed {
+    Ok(ModelTokens {
         tokens,
         end: place,
         stop: Stop::at(rest),

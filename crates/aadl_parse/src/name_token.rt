@@ -2,15 +2,16 @@
 
 ghost use Rattle.std.specs.Prelude.{◌≡◌, [], ◌∷◌, codes, refl, Some};
 ghost use Rattle.aadl_tree.specs.declared.token.Token.TheVariants as token;
-ghost use Rattle.aadl_tree.specs.declared.class.BaseType.TheVariants.{Boolean};
+ghost use Rattle.hw_text.specs.declared.base_type.BaseType.TheVariants.{Boolean};
 ghost use Rattle.aadl_parse.specs.Stops.{start};
 ghost use Rattle.aadl_parse.specs.Shapes.{one_of};
-ghost use Rattle.aadl_parse.specs.Terminals.{name_shapes, named_of, name_of, base_package_of, class_name_of, base_of, name-shaped, base_package-shaped, class_name-shaped, base_among, base_named, boolean-named};
+ghost use Rattle.aadl_parse.specs.Terminals.{name_shapes, named_of, name_of, base_package_of, class_name_of, base_of, name-shaped, base_package-shaped, class_name-shaped, boolean-named};
+ghost use Rattle.hw_text.specs.BaseTypes.{base_named};
 
 use crate::leaf::Terminal;
 use crate::shape::shape;
-use aadl_tree::{BaseType, ClassName, Named, Token};
-use hw_text::{Name, NoMemory, Place, Placed};
+use aadl_tree::{ClassName, Named, Token};
+use hw_text::{BaseType, Name, NoMemory, Place, Placed};
 use std::alloc::Global;
 
 /// A name, and where it stands.
@@ -139,7 +140,7 @@ impl Terminal for BaseName {
 
     fn value(_alloc: Global, token: &Placed<Token>) -> Result<Option<Self::Value>, NoMemory> {
         match &token.token {
-            Token::Name(name) => Ok(base_named(name.rows())),
+            Token::Name(name) => Ok(BaseType::named(name.rows())),
             _ => Ok(None),
         }
     }
@@ -155,36 +156,4 @@ fn is_name(token: &Placed<Token>) -> bool
 {
     let shape = shape(&token.token);
     shape == "NAME" || shape == "base_types"
-}
-
-static BASE_TYPES: [BaseType; 9] = [
-    BaseType::Boolean,
-    BaseType::Integer8,
-    BaseType::Integer16,
-    BaseType::Integer32,
-    BaseType::Integer64,
-    BaseType::Unsigned8,
-    BaseType::Unsigned16,
-    BaseType::Unsigned32,
-    BaseType::Unsigned64,
-];
-
-/// The base type of this name.
-#[tactic(auto, unfolding(crate::specs::Terminals::base_named))]
-fn base_named(name: &[u8]) -> Option<BaseType>
-    ensures { result ≡ base_named name.now }
-{
-    base_among(&BASE_TYPES, name)
-}
-
-/// The first of these base types that has this name.
-fn base_among(bases: &[BaseType], name: &[u8]) -> Option<BaseType>
-    ensures { result ≡ base_among bases.now name.now }
-{
-    for &base in bases {
-        if name == base.name().as_bytes() {
-            return Some(base);
-        }
-    }
-    None
 }

@@ -1,128 +1,123 @@
-//! The productions of names that are made of several.
+//! Reading names that are made of several.
 
-ghost use Rattle.std.specs.Prelude.{refl};
-ghost use Rattle.aadl_parse.specs.SimpleValue.{name_behind, qualified_of, path_of};
-ghost use Rattle.aadl_parse.specs.Builds.{implementation_name_of};
+ghost use Rattle.std.specs.Prelude.{[], ◌∷◌, codes, refl};
+ghost use Rattle.hw_text.specs.Language.{One, ◌⋅◌, Made};
+ghost use Rattle.hw_text.specs.Reading.{Reads};
+ghost use Rattle.aadl_parse.specs.Grammar.{SpellsImplementationName};
+ghost use Rattle.aadl_parse.specs.Parts.{a_behind_colons, a_dotted};
+ghost use Rattle.aadl_parse.specs.Shapes.{Without};
+ghost use Rattle.aadl_parse.specs.SimpleValue.{Symbol, SpellsQualified, SpellsPath, name_behind};
+ghost use Rattle.aadl_parse.specs.Terminals.{name_of};
 
-use crate::leaf::Leaf;
-use crate::made::{Production, Text};
+use crate::leaf::read_one;
 use crate::name_token::{BareName, NameAt};
-use crate::part::{Behind, Closed, Part};
-use crate::sequence::Then;
-use crate::shape::Sign;
-use crate::surround::WithMany;
-use crate::symbol::points::{Dot, DoubleColon};
-use aadl_tree::{ImplementationName, Path, QualifiedName};
-use hw_text::Name;
+use crate::part::{Behind, Part};
+use crate::repeat::each;
+use crate::symbols::{sign, stands_mark};
+use aadl_tree::{ImplementationName, Mark, Path, QualifiedName, Token};
+use hw_text::{Cursor, Name, Placed, ReadFault};
 use std::alloc::Global;
 
 /// "::" NAME
 pub struct ColonName;
 
-impl Production for ColonName {
-    type Parts = Then<Sign<DoubleColon>, Leaf<BareName>>;
-
+impl Part for ColonName {
     type Value = Name;
 
-    ghost build = { name_behind };
+    ghost spells = { Made name_behind (Symbol (codes "::") ⋅ One name_of) };
 
-    fn build(_alloc: Global, parts: <Self::Parts as Part>::Value) -> Self::Value {
-        let ((), name) = parts;
-        name
+    ghost starts = { codes "::" ∷ [] };
+
+    ghost goes_on = { [] };
+
+    ghost sample = { a_behind_colons.sample };
+
+    ghost begun = { a_behind_colons.begins };
+
+    fn stands(tokens: &Cursor<'_, Placed<Token>>) -> bool {
+        stands_mark(tokens, Mark::DoubleColon)
+    }
+
+    fn read(
+        alloc: Global,
+        tokens: &mut Cursor<'_, Placed<Token>>,
+    ) -> Result<Self::Value, ReadFault> {
+        sign(tokens, Mark::DoubleColon)?;
+        let name = read_one::<BareName>(alloc, tokens)?;
+        Ok(name)
     }
 }
 
-impl Closed for Text<ColonName> {
-    ghost closed = { refl };
-}
-
-impl Behind<Leaf<NameAt>> for Text<ColonName> {
-    ghost apart = { refl };
-}
-
-impl Behind<Text<ColonName>> for Text<ColonName> {
+impl Behind<ColonName> for ColonName {
     ghost apart = { refl };
 }
 
 /// "." NAME
 pub struct DotName;
 
-impl Production for DotName {
-    type Parts = Then<Sign<Dot>, Leaf<BareName>>;
-
+impl Part for DotName {
     type Value = Name;
 
-    ghost build = { name_behind };
+    ghost spells = { Made name_behind (Symbol (codes ".") ⋅ One name_of) };
 
-    fn build(_alloc: Global, parts: <Self::Parts as Part>::Value) -> Self::Value {
-        let ((), name) = parts;
-        name
+    ghost starts = { codes "." ∷ [] };
+
+    ghost goes_on = { [] };
+
+    ghost sample = { a_dotted.sample };
+
+    ghost begun = { a_dotted.begins };
+
+    fn stands(tokens: &Cursor<'_, Placed<Token>>) -> bool {
+        stands_mark(tokens, Mark::Dot)
+    }
+
+    fn read(
+        alloc: Global,
+        tokens: &mut Cursor<'_, Placed<Token>>,
+    ) -> Result<Self::Value, ReadFault> {
+        sign(tokens, Mark::Dot)?;
+        let name = read_one::<BareName>(alloc, tokens)?;
+        Ok(name)
     }
 }
 
-impl Closed for Text<DotName> {
-    ghost closed = { refl };
-}
-
-impl Behind<Leaf<NameAt>> for Text<DotName> {
+impl Behind<DotName> for DotName {
     ghost apart = { refl };
 }
 
-impl Behind<Text<DotName>> for Text<DotName> {
-    ghost apart = { refl };
+/// Reads NAME { "::" NAME }.
+pub fn qualified(
+    alloc: Global,
+    tokens: &mut Cursor<'_, Placed<Token>>,
+) -> Result<QualifiedName, ReadFault>
+    ensures { Reads SpellsQualified (Without (codes "::" ∷ [])) tokens.old tokens.new result }
+{
+    let first = read_one::<NameAt>(alloc, tokens)?;
+    let others = each::<ColonName>(alloc, tokens)?;
+    Ok(QualifiedName { first, others })
 }
 
-/// NAME { "::" NAME }
-pub struct QualifiedText;
-
-impl Production for QualifiedText {
-    type Parts = WithMany<Leaf<NameAt>, Text<ColonName>>;
-
-    type Value = QualifiedName;
-
-    ghost build = { qualified_of };
-
-    fn build(_alloc: Global, parts: <Self::Parts as Part>::Value) -> Self::Value {
-        let (first, others) = parts;
-        QualifiedName { first, others }
-    }
+/// Reads NAME { "." NAME }.
+pub fn path(alloc: Global, tokens: &mut Cursor<'_, Placed<Token>>) -> Result<Path, ReadFault>
+    ensures { Reads SpellsPath (Without (codes "." ∷ [])) tokens.old tokens.new result }
+{
+    let first = read_one::<NameAt>(alloc, tokens)?;
+    let others = each::<DotName>(alloc, tokens)?;
+    Ok(Path { first, others })
 }
 
-/// NAME { "." NAME }
-pub struct PathText;
-
-impl Production for PathText {
-    type Parts = WithMany<Leaf<NameAt>, Text<DotName>>;
-
-    type Value = Path;
-
-    ghost build = { path_of };
-
-    fn build(_alloc: Global, parts: <Self::Parts as Part>::Value) -> Self::Value {
-        let (first, others) = parts;
-        Path { first, others }
-    }
-}
-
-/// NAME "." NAME
-pub struct ImplementationNameText;
-
-impl Production for ImplementationNameText {
-    type Parts = Then<Leaf<NameAt>, Text<DotName>>;
-
-    type Value = ImplementationName;
-
-    ghost build = { implementation_name_of };
-
-    fn build(_alloc: Global, parts: <Self::Parts as Part>::Value) -> Self::Value {
-        let (component_type, name) = parts;
-        ImplementationName {
-            component_type,
-            name,
-        }
-    }
-}
-
-impl Closed for Text<ImplementationNameText> {
-    ghost closed = { refl };
+/// Reads NAME "." NAME.
+pub fn implementation_name(
+    alloc: Global,
+    tokens: &mut Cursor<'_, Placed<Token>>,
+) -> Result<ImplementationName, ReadFault>
+    ensures { Reads SpellsImplementationName (Without []) tokens.old tokens.new result }
+{
+    let component_type = read_one::<NameAt>(alloc, tokens)?;
+    let name = DotName::read(alloc, tokens)?;
+    Ok(ImplementationName {
+        component_type,
+        name,
+    })
 }

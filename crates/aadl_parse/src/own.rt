@@ -1,119 +1,58 @@
-//! What ends features, subcomponents and connections: associations in braces, and a semicolon.
+//! Reading what ends features, subcomponents and connections: associations in braces, and a semicolon.
 
-ghost use Rattle.std.specs.Prelude.{refl};
-ghost use Rattle.aadl_parse.specs.Builds.{own_of, ending_of};
+ghost use Rattle.std.specs.Prelude.{[], ◌∷◌, codes};
+ghost use Rattle.hw_text.specs.Reading.{Reads};
 ghost use Rattle.aadl_parse.specs.Grammar.{SpellsOwn, SpellsEnding};
+ghost use Rattle.aadl_parse.specs.Parts.{an_own};
+ghost use Rattle.aadl_parse.specs.Shapes.{Without};
 
 use crate::associations::AssociationText;
-use crate::made::{Production, Text};
-use crate::part::{Behind, Beside, Closed, Part};
-use crate::sequence::Then;
-use crate::shape::Sign;
-use crate::surround::{ManyThen, OptionalThen};
-use crate::symbol::brackets::{CloseBrace, OpenBrace};
-use crate::symbol::points::Semicolon;
-use aadl_tree::{Association, Token};
+use crate::part::Part;
+use crate::repeat::{each, optional};
+use crate::symbols::{sign, stands_mark};
+use aadl_tree::{Association, Mark, Token};
 use hw_text::{Cursor, Placed, ReadFault, Rows};
 use std::alloc::Global;
 
-impl Behind<AssociationText> for Sign<CloseBrace> {
-    ghost apart = { refl };
-}
-
-impl Beside<AssociationText> for Sign<CloseBrace> {
-    ghost other = { refl };
-}
-
 /// "{" { assoc } "}"
-pub struct OwnText;
-
-impl Production for OwnText {
-    type Parts = Then<Sign<OpenBrace>, ManyThen<AssociationText, Sign<CloseBrace>>>;
-
-    type Value = Rows<Association>;
-
-    ghost build = { own_of };
-
-    fn build(_alloc: Global, parts: <Self::Parts as Part>::Value) -> Self::Value {
-        let ((), (associations, ())) = parts;
-        associations
-    }
-}
+struct OwnText;
 
 impl Part for OwnText {
     type Value = Rows<Association>;
 
     ghost spells = { SpellsOwn };
 
-    ghost starts = { ⟦<Text<OwnText> as Part>⟧.starts };
+    ghost starts = { codes "{" ∷ [] };
 
-    ghost goes_on = { ⟦<Text<OwnText> as Part>⟧.goes_on };
+    ghost goes_on = { [] };
 
-    ghost sample = { ⟦<Text<OwnText> as Part>⟧.sample };
+    ghost sample = { an_own.sample };
 
-    ghost begun = { ⟦<Text<OwnText> as Part>⟧.begun };
+    ghost begun = { an_own.begins };
 
     fn stands(tokens: &Cursor<'_, Placed<Token>>) -> bool {
-        <Text<OwnText>>::stands(tokens)
+        stands_mark(tokens, Mark::OpenBrace)
     }
 
     fn read(
         alloc: Global,
         tokens: &mut Cursor<'_, Placed<Token>>,
     ) -> Result<Self::Value, ReadFault> {
-        <Text<OwnText>>::read(alloc, tokens)
+        sign(tokens, Mark::OpenBrace)?;
+        let associations = each::<AssociationText>(alloc, tokens)?;
+        sign(tokens, Mark::CloseBrace)?;
+        Ok(associations)
     }
 }
 
-impl Behind<OwnText> for Sign<Semicolon> {
-    ghost apart = { refl };
-}
-
-impl Beside<OwnText> for Sign<Semicolon> {
-    ghost other = { refl };
-}
-
-/// [ own ] ";"
-pub struct EndingText;
-
-impl Production for EndingText {
-    type Parts = OptionalThen<OwnText, Sign<Semicolon>>;
-
-    type Value = Option<Rows<Association>>;
-
-    ghost build = { ending_of };
-
-    fn build(_alloc: Global, parts: <Self::Parts as Part>::Value) -> Self::Value {
-        let (own, ()) = parts;
-        own
-    }
-}
-
-impl Part for EndingText {
-    type Value = Option<Rows<Association>>;
-
-    ghost spells = { SpellsEnding };
-
-    ghost starts = { ⟦<Text<EndingText> as Part>⟧.starts };
-
-    ghost goes_on = { ⟦<Text<EndingText> as Part>⟧.goes_on };
-
-    ghost sample = { ⟦<Text<EndingText> as Part>⟧.sample };
-
-    ghost begun = { ⟦<Text<EndingText> as Part>⟧.begun };
-
-    fn stands(tokens: &Cursor<'_, Placed<Token>>) -> bool {
-        <Text<EndingText>>::stands(tokens)
-    }
-
-    fn read(
-        alloc: Global,
-        tokens: &mut Cursor<'_, Placed<Token>>,
-    ) -> Result<Self::Value, ReadFault> {
-        <Text<EndingText>>::read(alloc, tokens)
-    }
-}
-
-impl Closed for EndingText {
-    ghost closed = { refl };
+/// Reads [ own ] ";".
+pub fn ending(
+    alloc: Global,
+    tokens: &mut Cursor<'_, Placed<Token>>,
+) -> Result<Option<Rows<Association>>, ReadFault>
+    ensures { Reads SpellsEnding (Without []) tokens.old tokens.new result }
+{
+    let own = optional::<OwnText>(alloc, tokens)?;
+    sign(tokens, Mark::Semicolon)?;
+    Ok(own)
 }

@@ -46,8 +46,3 @@ pub trait Closed: Part {
 pub trait Behind<A: Part>: Part {
     ghost apart: { is_disjoint Self.starts A.goes_on ≡ true };
 }
-
-/// A part that begins with no token with which the other may begin.
-pub trait Beside<A: Part>: Part {
-    ghost other: { is_disjoint Self.starts A.starts ≡ true };
-}

@@ -1,82 +1,92 @@
-//! The production of the paths that an association applies to.
+//! Reading the paths that an association applies to.
 
-ghost use Rattle.std.specs.Prelude.{refl};
-ghost use Rattle.aadl_parse.specs.Builds.{behind_mark, behind_words};
-ghost use Rattle.aadl_parse.specs.Grammar.{SpellsApplies};
+ghost use Rattle.std.specs.Prelude.{[], ◌∷◌, codes, refl};
+ghost use Rattle.hw_text.specs.Language.{◌⋅◌, Each, Made};
+ghost use Rattle.hw_text.specs.Reading.{Reads};
+ghost use Rattle.aadl_parse.specs.Builds.{listed};
+ghost use Rattle.aadl_parse.specs.Shapes.{Without};
+ghost use Rattle.aadl_parse.specs.Grammar.{BehindComma, SpellsApplies};
+ghost use Rattle.aadl_parse.specs.Parts.{a_path, behind_comma, an_applies};
+ghost use Rattle.aadl_parse.specs.SimpleValue.{SpellsPath};
 
-use crate::list::Listed;
-use crate::made::{Production, Text};
-use crate::names::PathText;
+use crate::names::path;
 use crate::part::{Behind, Part};
-use crate::sequence::Then;
-use crate::shape::Sign;
-use crate::symbol::points::Comma;
-use crate::symbol::settings::{Applies, To};
-use aadl_tree::{Path, Token};
+use crate::repeat::behind_first;
+use crate::symbols::{keyword, sign, stands_mark, stands_word};
+use aadl_tree::{Mark, Path, Token, Word};
 use hw_text::{Cursor, Placed, ReadFault, Rows};
 use std::alloc::Global;
 
 /// "," path
-pub struct CommaPath;
+struct CommaPath;
 
-impl Production for CommaPath {
-    type Parts = Then<Sign<Comma>, Text<PathText>>;
-
+impl Part for CommaPath {
     type Value = Path;
 
-    ghost build = { behind_mark };
+    ghost spells = { BehindComma SpellsPath };
 
-    fn build(_alloc: Global, parts: <Self::Parts as Part>::Value) -> Self::Value {
-        let ((), path) = parts;
-        path
-    }
-}
+    ghost starts = { codes "," ∷ [] };
 
-impl Behind<Text<CommaPath>> for Text<CommaPath> {
-    ghost apart = { refl };
-}
+    ghost goes_on = { codes "." ∷ [] };
 
-impl Behind<Text<PathText>> for Text<CommaPath> {
-    ghost apart = { refl };
-}
+    ghost sample = { (behind_comma a_path).sample };
 
-/// "applies" "to" path { "," path }
-pub struct AppliesText;
-
-impl Production for AppliesText {
-    type Parts = Then<Sign<Applies>, Then<Sign<To>, Listed<Text<PathText>, Text<CommaPath>>>>;
-
-    type Value = Rows<Path>;
-
-    ghost build = { behind_words };
-
-    fn build(_alloc: Global, parts: <Self::Parts as Part>::Value) -> Self::Value {
-        let ((), ((), paths)) = parts;
-        paths
-    }
-}
-
-impl Part for AppliesText {
-    type Value = Rows<Path>;
-
-    ghost spells = { SpellsApplies };
-
-    ghost starts = { ⟦<Text<AppliesText> as Part>⟧.starts };
-
-    ghost goes_on = { ⟦<Text<AppliesText> as Part>⟧.goes_on };
+    ghost begun = { (behind_comma a_path).begins };
 
     fn stands(tokens: &Cursor<'_, Placed<Token>>) -> bool {
-        <Text<AppliesText>>::stands(tokens)
+        stands_mark(tokens, Mark::Comma)
     }
 
     fn read(
         alloc: Global,
         tokens: &mut Cursor<'_, Placed<Token>>,
     ) -> Result<Self::Value, ReadFault> {
-        <Text<AppliesText>>::read(alloc, tokens)
+        sign(tokens, Mark::Comma)?;
+        let path = path(alloc, tokens)?;
+        Ok(path)
+    }
+}
+
+impl Behind<CommaPath> for CommaPath {
+    ghost apart = { refl };
+}
+
+/// Reads path { "," path }.
+fn listed(alloc: Global, tokens: &mut Cursor<'_, Placed<Token>>) -> Result<Rows<Path>, ReadFault>
+    ensures { Reads (Made listed (SpellsPath ⋅ Each (BehindComma SpellsPath))) (Without (codes "." ∷ codes "," ∷ codes "." ∷ [])) tokens.old tokens.new result }
+{
+    let first = path(alloc, tokens)?;
+    let paths = behind_first::<CommaPath>(alloc, tokens, first)?;
+    Ok(paths)
+}
+
+/// "applies" "to" path { "," path }
+pub struct AppliesText;
+
+impl Part for AppliesText {
+    type Value = Rows<Path>;
+
+    ghost spells = { SpellsApplies };
+
+    ghost starts = { codes "applies" ∷ [] };
+
+    ghost goes_on = { codes "." ∷ codes "," ∷ codes "." ∷ [] };
+
+    ghost sample = { an_applies.sample };
+
+    ghost begun = { an_applies.begins };
+
+    fn stands(tokens: &Cursor<'_, Placed<Token>>) -> bool {
+        stands_word(tokens, Word::Applies)
     }
 
-    ghost sample = { ⟦<Text<AppliesText> as Part>⟧.sample };
-
-    ghost begun = { ⟦<Text<AppliesText> as Part>⟧.begun };
+    fn read(
+        alloc: Global,
+        tokens: &mut Cursor<'_, Placed<Token>>,
+    ) -> Result<Self::Value, ReadFault> {
+        keyword(tokens, Word::Applies)?;
+        keyword(tokens, Word::To)?;
+        let paths = listed(alloc, tokens)?;
+        Ok(paths)
+    }
 }

@@ -1,120 +1,88 @@
-//! The productions of numbers with signs and units, and of ranges.
+//! Reading numbers with signs and units, and ranges.
 
-ghost use Rattle.std.specs.Prelude.{refl};
-ghost use Rattle.std.specs.Prelude.{◌≡◌};
+ghost use Rattle.std.specs.Prelude.{◌≡◌, [], ◌∷◌, codes, refl};
+ghost use Rattle.hw_text.specs.Language.{◌⋅◌};
 ghost use Rattle.hw_text.specs.Reading.{Reads, begins};
+ghost use Rattle.aadl_parse.specs.ValueParts.{an_up_to};
 ghost use Rattle.aadl_parse.specs.Shapes.{one_of, Without};
+ghost use Rattle.aadl_parse.specs.SimpleValue.{Symbol, range_with, SpellsQuantity, SpellsRange, quantity_starts, range_goes_on};
 ghost use Rattle.aadl_parse.specs.Terminals.{name_shapes};
-ghost use Rattle.aadl_parse.specs.SimpleValue.{range_of, SpellsQuantity, SpellsRange, quantity_starts, range_goes_on, a_quantity, a_range, quantity-begun, range-begun};
 
-use crate::leaf::Leaf;
-use crate::made::{Production, Text};
+use crate::leaf::{Leaf, read_one, stands};
 use crate::name_token::BareName;
-use crate::part::{Behind, Part};
+use crate::part::Part;
 use crate::repeat::optional;
-use crate::sequence::Then;
-use crate::shape::Sign;
-use crate::surround::WithOptional;
-use crate::symbol::operators::Range;
+use crate::symbols::{sign, stands_mark};
 use crate::value_token::{NumberToken, SignMark};
-use aadl_tree::{PropertyValue, Quantity, Token};
+use aadl_tree::{Mark, PropertyValue, Quantity, Token};
 use hw_text::{Cursor, Placed, ReadFault};
 use std::alloc::Global;
 
-/// [ "+" | "-" ] ( INT | REAL ) [ NAME ]
-pub struct QuantityText;
-
-/// Reads a number, with what stands beside it.
-fn read_quantity(
-    alloc: Global,
-    tokens: &mut Cursor<'_, Placed<Token>>,
-) -> Result<Quantity, ReadFault>
+/// Reads [ "+" | "-" ] ( INT | REAL ) [ NAME ].
+fn quantity(alloc: Global, tokens: &mut Cursor<'_, Placed<Token>>) -> Result<Quantity, ReadFault>
     ensures { Reads SpellsQuantity (Without name_shapes) tokens.old tokens.new result }
 {
     let sign = optional::<Leaf<SignMark>>(alloc, tokens)?;
-    let number = Leaf::<NumberToken>::read(alloc, tokens)?;
+    let number = read_one::<NumberToken>(alloc, tokens)?;
     let unit = optional::<Leaf<BareName>>(alloc, tokens)?;
     Ok(Quantity { sign, number, unit })
 }
 
-fn quantity_stands(tokens: &Cursor<'_, Placed<Token>>) -> bool
+/// Whether a token is ahead with which a number may begin.
+pub fn quantity_stands(tokens: &Cursor<'_, Placed<Token>>) -> bool
     ensures { result ≡ begins (one_of quantity_starts) tokens.now }
 {
-    Leaf::<SignMark>::stands(tokens) || Leaf::<NumberToken>::stands(tokens)
-}
-
-impl Part for QuantityText {
-    type Value = Quantity;
-
-    ghost spells = { SpellsQuantity };
-
-    ghost starts = { quantity_starts };
-
-    ghost goes_on = { name_shapes };
-
-    fn stands(tokens: &Cursor<'_, Placed<Token>>) -> bool {
-        quantity_stands(tokens)
-    }
-
-    fn read(
-        alloc: Global,
-        tokens: &mut Cursor<'_, Placed<Token>>,
-    ) -> Result<Self::Value, ReadFault> {
-        read_quantity(alloc, tokens)
-    }
-
-    ghost sample = { a_quantity };
-
-    ghost begun = { quantity-begun };
+    stands::<SignMark>(tokens) || stands::<NumberToken>(tokens)
 }
 
 /// ".." quantity
-type UpTo = Then<Sign<Range>, QuantityText>;
+struct UpTo;
 
-impl Behind<QuantityText> for UpTo {
-    ghost apart = { refl };
-}
+impl Part for UpTo {
+    type Value = ((), Quantity);
 
-/// quantity [ ".." quantity ]
-pub struct RangeValue;
+    ghost spells = { Symbol (codes "..") ⋅ SpellsQuantity };
 
-impl Production for RangeValue {
-    type Parts = WithOptional<QuantityText, UpTo>;
+    ghost starts = { codes ".." ∷ [] };
 
-    type Value = PropertyValue;
+    ghost goes_on = { name_shapes };
 
-    ghost build = { range_of };
+    ghost sample = { an_up_to.sample };
 
-    fn build(_alloc: Global, parts: <Self::Parts as Part>::Value) -> Self::Value {
-        let (from, to) = parts;
-        match to {
-            Some(((), to)) => PropertyValue::Range(from, to),
-            None => PropertyValue::Quantity(from),
-        }
-    }
-}
-
-impl Part for RangeValue {
-    type Value = PropertyValue;
-
-    ghost spells = { SpellsRange };
-
-    ghost starts = { quantity_starts };
-
-    ghost goes_on = { range_goes_on };
+    ghost begun = { an_up_to.begins };
 
     fn stands(tokens: &Cursor<'_, Placed<Token>>) -> bool {
-        <Text<RangeValue>>::stands(tokens)
+        stands_mark(tokens, Mark::Range)
     }
 
     fn read(
         alloc: Global,
         tokens: &mut Cursor<'_, Placed<Token>>,
     ) -> Result<Self::Value, ReadFault> {
-        <Text<RangeValue>>::read(alloc, tokens)
+        sign(tokens, Mark::Range)?;
+        let to = quantity(alloc, tokens)?;
+        Ok(((), to))
     }
+}
 
-    ghost sample = { a_range };
+/// A number alone, or a range to another.
+fn range_with(from: Quantity, to: Option<((), Quantity)>) -> PropertyValue
+    ensures { result ≡ range_with from to }
+{
+    match to {
+        Some(((), to)) => PropertyValue::Range(from, to),
+        None => PropertyValue::Quantity(from),
+    }
+}
 
-    ghost begun = { range-begun };
+/// Reads quantity [ ".." quantity ].
+pub fn range(
+    alloc: Global,
+    tokens: &mut Cursor<'_, Placed<Token>>,
+) -> Result<PropertyValue, ReadFault>
+    ensures { Reads SpellsRange (Without range_goes_on) tokens.old tokens.new result }
+{
+    let from = quantity(alloc, tokens)?;
+    let to = optional::<UpTo>(alloc, tokens)?;
+    Ok(range_with(from, to))
 }

@@ -13,7 +13,7 @@ ghost use Rattle.aadl_parse.specs.Refusals.{unexpected_there};
 ghost use Rattle.aadl_parse.specs.Rules.{flaw_told, text_rules, model_rules};
 
 use crate::flaw::{Flawed, first_flawed};
-use crate::lexer::{Lexed, read_tokens};
+use crate::lexer::{ModelTokens, read_tokens};
 use crate::package::PackageText;
 use crate::part::{Closed, Part};
 use crate::refusals::{LARGEST, flawed, stopped, too_long, unexpected};
@@ -46,7 +46,7 @@ fn read_text<P: Closed>(alloc: Global, bytes: &[u8]) -> Result<P::Value, Fault>
 }
 
 /// Reads the tokens of a text, and what stopped them.
-fn read_lexed<P: Closed>(alloc: Global, lexed: &Lexed) -> Result<P::Value, Fault>
+fn read_lexed<P: Closed>(alloc: Global, lexed: &ModelTokens) -> Result<P::Value, Fault>
     ensures read { IfOk result (λ value. IsSound (text_rules P.Part.spells) lexed.now.tokens lexed.now.end lexed.now.stop value) }
     ensures refused { IfRefused result (λ refusal. (i : ℕ) × FailsAt (text_rules P.Part.spells) lexed.now.tokens lexed.now.end lexed.now.stop i refusal) }
 {
@@ -57,7 +57,7 @@ fn read_lexed<P: Closed>(alloc: Global, lexed: &Lexed) -> Result<P::Value, Fault
 }
 
 /// Reads tokens of which each is as it should be.
-fn read_flawless<P: Closed>(alloc: Global, lexed: &Lexed) -> Result<P::Value, Fault>
+fn read_flawless<P: Closed>(alloc: Global, lexed: &ModelTokens) -> Result<P::Value, Fault>
     requires { (k : ℕ) → flaw_at lexed.now.tokens k ≡ None }
     ensures read { IfOk result (λ value. IsSound (text_rules P.Part.spells) lexed.now.tokens lexed.now.end lexed.now.stop value) }
     ensures refused { IfRefused result (λ refusal. (i : ℕ) × FailsAt (text_rules P.Part.spells) lexed.now.tokens lexed.now.end lexed.now.stop i refusal) }
@@ -78,7 +78,7 @@ fn read_flawless<P: Closed>(alloc: Global, lexed: &Lexed) -> Result<P::Value, Fa
 /// The first failure in tokens of which one has a flaw.
 fn failure_before<P: Closed>(
     alloc: Global,
-    lexed: &Lexed,
+    lexed: &ModelTokens,
     flaw: Flawed,
 ) -> Result<Refusal, NoMemory>
     requires flawed { flaw_at lexed.now.tokens flaw.index ≡ Some flaw.flaw }
@@ -95,7 +95,7 @@ fn failure_before<P: Closed>(
 }
 
 /// Why no text goes on behind so many tokens.
-fn unexpected_behind(alloc: Global, lexed: &Lexed, passed: usize) -> Result<Refusal, NoMemory>
+fn unexpected_behind(alloc: Global, lexed: &ModelTokens, passed: usize) -> Result<Refusal, NoMemory>
     ensures { IfOk result (λ refusal. refusal ≡ unexpected_there lexed.now.end lexed.now.stop (slice_get lexed.now.tokens passed)) }
 {
     match lexed.tokens.rows().get(passed) {
@@ -105,7 +105,7 @@ fn unexpected_behind(alloc: Global, lexed: &Lexed, passed: usize) -> Result<Refu
 }
 
 /// What is wrong with the token that has the flaw.
-fn flawed_there(alloc: Global, lexed: &Lexed, flaw: Flawed) -> Result<Refusal, NoMemory>
+fn flawed_there(alloc: Global, lexed: &ModelTokens, flaw: Flawed) -> Result<Refusal, NoMemory>
     requires { flaw_at lexed.now.tokens flaw.index ≡ Some flaw.flaw }
     ensures { IfOk result (λ refusal. flaw_told lexed.now.tokens flaw.index ≡ Some refusal) }
 {

@@ -1,7 +1,7 @@
 //! Parts of a grammar that stand there or not, and parts that stand there several times.
 
-ghost use Rattle.std.specs.Prelude.{◌++◌};
-ghost use Rattle.hw_text.specs.Language.{Maybe, Each, Made};
+ghost use Rattle.std.specs.Prelude.{◌++◌, ◌∷◌};
+ghost use Rattle.hw_text.specs.Language.{◌⋅◌, Maybe, Each, Made};
 ghost use Rattle.hw_text.specs.Reading.{Reads};
 ghost use Rattle.aadl_parse.specs.Shapes.{Without};
 
@@ -48,4 +48,30 @@ pub fn each<A: Part + Behind<A>>(
     ensures { Reads (Each A.Part.spells) (Without (A.Part.starts ++ A.Part.goes_on)) tokens.old tokens.new result }
 {
     members::<A>(alloc, tokens, Rows::new(alloc))
+}
+
+/// Reads texts of the part, as long as one begins ahead, behind a first value.
+pub fn behind_first<A: Part + Behind<A>>(
+    alloc: Global,
+    tokens: &mut Cursor<'_, Placed<Token>>,
+    first: A::Value,
+) -> Result<Rows<A::Value>, ReadFault>
+    ensures { Reads (Made (λ later. first ∷ later) (Each A.Part.spells)) (Without (A.Part.starts ++ A.Part.goes_on)) tokens.old tokens.new result }
+{
+    let mut started = Rows::new(alloc);
+    started.push(first)?;
+    members::<A>(alloc, tokens, started)
+}
+
+/// Reads texts of the part, of which there is one at least.
+pub fn at_least_one<A: Part + Behind<A>>(
+    alloc: Global,
+    tokens: &mut Cursor<'_, Placed<Token>>,
+) -> Result<Rows<A::Value>, ReadFault>
+    ensures { Reads (Made (λ p. p.0 ∷ p.1) (A.Part.spells ⋅ Each A.Part.spells)) (Without (A.Part.starts ++ A.Part.goes_on)) tokens.old tokens.new result }
+{
+    let first = A::read(alloc, tokens)?;
+    let mut started = Rows::new(alloc);
+    started.push(first)?;
+    members::<A>(alloc, tokens, started)
 }

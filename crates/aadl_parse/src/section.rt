@@ -1,137 +1,52 @@
-//! The sections that component types may have, and what all sections have in common.
+//! Reading sections: a word, and members behind it, or `none`.
 
-ghost use Rattle.std.specs.Prelude.{◌≡◌, refl};
-ghost use Rattle.aadl_parse.specs.Builds.{section_of, nothing_of, members_behind};
-ghost use Rattle.aadl_parse.specs.Grammar.{SpellsFeatures, SpellsProperties};
+ghost use Rattle.std.specs.Prelude.{◌≡◌, true, [], ◌∷◌, ◌++◌, codes};
+ghost use Rattle.hw_text.specs.Language.{Maybe};
+ghost use Rattle.hw_text.specs.Reading.{Reads};
+ghost use Rattle.aadl_tree.specs.Words.{word_spelling};
+ghost use Rattle.aadl_parse.specs.Builds.{or_none};
+ghost use Rattle.aadl_parse.specs.Grammar.{Section};
+ghost use Rattle.aadl_parse.specs.Shapes.{Without, is_disjoint};
 
-use crate::associations::AssociationText;
-use crate::choice::{Choice, Either};
-use crate::features::FeatureText;
-use crate::made::{Production, Text};
-use crate::part::{Beside, Part};
-use crate::sequence::Then;
-use crate::shape::Sign;
-use crate::surround::AtLeastOne;
-use crate::symbol::points::Semicolon;
-use crate::symbol::sections;
-use aadl_tree::{Association, Feature, Token};
+use crate::part::{Behind, Part};
+use crate::repeat::at_least_one;
+use crate::symbols::{keyword, sign, stands_word};
+use aadl_tree::{Mark, Token, Word};
 use hw_text::{Cursor, Placed, ReadFault, Rows};
 use std::alloc::Global;
 
-/// "none" ";"
-pub struct NoneText;
-
-impl Production for NoneText {
-    type Parts = Then<Sign<sections::None>, Sign<Semicolon>>;
-
-    type Value = ();
-
-    ghost build = { nothing_of };
-
-    fn build(_alloc: Global, parts: <Self::Parts as Part>::Value) -> Self::Value {
-        let ((), ()) = parts;
-    }
+/// A part that may stand in a section, where `none` is no member.
+pub trait Member: Part {
+    ghost listed: { is_disjoint Self.Part.starts (codes "none" ∷ []) ≡ true };
 }
 
-impl Beside<Text<NoneText>> for AtLeastOne<FeatureText> {
-    ghost other = { refl };
-}
-
-/// "features" ( "none" ";" | one or more members )
-pub struct FeaturesText;
-
-impl Production for FeaturesText {
-    type Parts = Then<Sign<sections::Features>, Either<Text<NoneText>, AtLeastOne<FeatureText>>>;
-
-    type Value = Rows<Feature>;
-
-    ghost build = { members_behind };
-
-    fn build(alloc: Global, parts: <Self::Parts as Part>::Value) -> Self::Value {
-        let ((), members) = parts;
-        section_of(alloc, members)
-    }
-}
-
-impl Part for FeaturesText {
-    type Value = Rows<Feature>;
-
-    ghost spells = { SpellsFeatures };
-
-    ghost starts = { ⟦<Text<FeaturesText> as Part>⟧.starts };
-
-    ghost goes_on = { ⟦<Text<FeaturesText> as Part>⟧.goes_on };
-
-    ghost sample = { ⟦<Text<FeaturesText> as Part>⟧.sample };
-
-    ghost begun = { ⟦<Text<FeaturesText> as Part>⟧.begun };
-
-    fn stands(tokens: &Cursor<'_, Placed<Token>>) -> bool {
-        <Text<FeaturesText>>::stands(tokens)
-    }
-
-    fn read(
-        alloc: Global,
-        tokens: &mut Cursor<'_, Placed<Token>>,
-    ) -> Result<Self::Value, ReadFault> {
-        <Text<FeaturesText>>::read(alloc, tokens)
-    }
-}
-
-impl Beside<Text<NoneText>> for AtLeastOne<AssociationText> {
-    ghost other = { refl };
-}
-
-/// "properties" ( "none" ";" | one or more members )
-pub struct PropertiesText;
-
-impl Production for PropertiesText {
-    type Parts = Then<
-        Sign<sections::Properties>,
-        Either<Text<NoneText>, AtLeastOne<AssociationText>>,
-    >;
-
-    type Value = Rows<Association>;
-
-    ghost build = { members_behind };
-
-    fn build(alloc: Global, parts: <Self::Parts as Part>::Value) -> Self::Value {
-        let ((), members) = parts;
-        section_of(alloc, members)
-    }
-}
-
-impl Part for PropertiesText {
-    type Value = Rows<Association>;
-
-    ghost spells = { SpellsProperties };
-
-    ghost starts = { ⟦<Text<PropertiesText> as Part>⟧.starts };
-
-    ghost goes_on = { ⟦<Text<PropertiesText> as Part>⟧.goes_on };
-
-    ghost sample = { ⟦<Text<PropertiesText> as Part>⟧.sample };
-
-    ghost begun = { ⟦<Text<PropertiesText> as Part>⟧.begun };
-
-    fn stands(tokens: &Cursor<'_, Placed<Token>>) -> bool {
-        <Text<PropertiesText>>::stands(tokens)
-    }
-
-    fn read(
-        alloc: Global,
-        tokens: &mut Cursor<'_, Placed<Token>>,
-    ) -> Result<Self::Value, ReadFault> {
-        <Text<PropertiesText>>::read(alloc, tokens)
-    }
-}
-
-/// The members of a section; there are none where it says so.
-pub fn section_of<X: Drop>(alloc: Global, members: Choice<(), Rows<X>>) -> Rows<X>
-    ensures { result ≡ section_of members }
+/// Reads the section that begins with this word, where it is ahead.
+pub fn section<M: Member + Behind<M>>(
+    alloc: Global,
+    tokens: &mut Cursor<'_, Placed<Token>>,
+    word: Word,
+) -> Result<Option<Rows<M::Value>>, ReadFault>
+    ensures { Reads (Maybe (Section (word_spelling word) M.Part.spells)) (Without (word_spelling word ∷ (M.Part.starts ++ M.Part.goes_on))) tokens.old tokens.new result }
 {
-    match members {
-        Choice::First(()) => Rows::new(alloc),
-        Choice::Second(members) => members,
+    if !stands_word(tokens, word) {
+        return Ok(None);
+    }
+    keyword(tokens, word)?;
+    if stands_word(tokens, Word::None) {
+        keyword(tokens, Word::None)?;
+        sign(tokens, Mark::Semicolon)?;
+        return Ok(Some(Rows::new(alloc)));
+    }
+    let members = at_least_one::<M>(alloc, tokens)?;
+    Ok(Some(members))
+}
+
+/// The members of a section; there are none where it is not there.
+pub fn or_none<X: Drop>(alloc: Global, section: Option<Rows<X>>) -> Rows<X>
+    ensures { result ≡ or_none section }
+{
+    match section {
+        Some(members) => members,
+        None => Rows::new(alloc),
     }
 }

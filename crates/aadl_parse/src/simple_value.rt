@@ -1,149 +1,88 @@
-//! The productions of values that have no other values in them.
+//! Reading values that have no other values in them.
 
-ghost use Rattle.std.specs.Prelude.{refl};
-ghost use Rattle.aadl_parse.specs.Builds.{either_of};
-ghost use Rattle.aadl_parse.specs.SimpleValue.{SpellsTelling, SpellsQuoting, SpellsSimple, telling_starts, quoting_starts, simple_starts, naming_goes_on, value_goes_on, a_telling, a_quoting, a_simple, telling-begun, quoting-begun, simple-begun};
+ghost use Rattle.std.specs.Prelude.{◌≡◌, []};
+ghost use Rattle.hw_text.specs.Reading.{Reads, begins};
+ghost use Rattle.aadl_parse.specs.Shapes.{one_of, Without};
+ghost use Rattle.aadl_parse.specs.SimpleValue.{SpellsClassifier, SpellsReference, SpellsSimple, simple_starts, value_goes_on};
 
-use crate::choice::{Either, either_of};
-use crate::leaf::Leaf;
-use crate::made::{Production, Text};
-use crate::naming::Naming;
-use crate::part::{Beside, Part};
-use crate::plain_value::TruthValue;
-use crate::quantity::RangeValue;
-use crate::value_token::TextToken;
-use aadl_tree::{PropertyValue, Token};
+use crate::classes::class;
+use crate::leaf::{read_one, stands};
+use crate::name_token::NameAt;
+use crate::names::{path, qualified};
+use crate::quantity::{quantity_stands, range};
+use crate::symbols::{keyword, sign, stands_word};
+use crate::value_token::{TextToken, TruthWord};
+use aadl_tree::{Mark, PropertyValue, Token, Word};
 use hw_text::{Cursor, Placed, ReadFault};
 use std::alloc::Global;
 
-impl Beside<Text<TruthValue>> for Naming {
-    ghost other = { refl };
+/// Reads "classifier" "(" class ")".
+fn classifier(
+    alloc: Global,
+    tokens: &mut Cursor<'_, Placed<Token>>,
+) -> Result<PropertyValue, ReadFault>
+    ensures { Reads SpellsClassifier (Without []) tokens.old tokens.new result }
+{
+    keyword(tokens, Word::Classifier)?;
+    sign(tokens, Mark::OpenParenthesis)?;
+    let class = class(alloc, tokens)?;
+    sign(tokens, Mark::CloseParenthesis)?;
+    Ok(PropertyValue::Classifier(class))
 }
 
-/// Such a value, or a truth.
-pub struct Telling;
-
-impl Production for Telling {
-    type Parts = Either<Text<TruthValue>, Naming>;
-
-    type Value = PropertyValue;
-
-    ghost build = { either_of };
-
-    fn build(_alloc: Global, parts: <Self::Parts as Part>::Value) -> Self::Value {
-        either_of(parts)
-    }
+/// Reads "reference" "(" path ")".
+fn reference(
+    alloc: Global,
+    tokens: &mut Cursor<'_, Placed<Token>>,
+) -> Result<PropertyValue, ReadFault>
+    ensures { Reads SpellsReference (Without []) tokens.old tokens.new result }
+{
+    keyword(tokens, Word::Reference)?;
+    sign(tokens, Mark::OpenParenthesis)?;
+    let path = path(alloc, tokens)?;
+    sign(tokens, Mark::CloseParenthesis)?;
+    Ok(PropertyValue::Reference(path))
 }
 
-impl Part for Telling {
-    type Value = PropertyValue;
-
-    ghost spells = { SpellsTelling };
-
-    ghost starts = { telling_starts };
-
-    ghost goes_on = { naming_goes_on };
-
-    fn stands(tokens: &Cursor<'_, Placed<Token>>) -> bool {
-        <Text<Telling>>::stands(tokens)
-    }
-
-    fn read(
-        alloc: Global,
-        tokens: &mut Cursor<'_, Placed<Token>>,
-    ) -> Result<Self::Value, ReadFault> {
-        <Text<Telling>>::read(alloc, tokens)
-    }
-
-    ghost sample = { a_telling };
-
-    ghost begun = { telling-begun };
+/// Whether a token is ahead with which such a value may begin.
+pub fn simple_stands(tokens: &Cursor<'_, Placed<Token>>) -> bool
+    ensures { result ≡ begins (one_of simple_starts) tokens.now }
+{
+    quantity_stands(tokens)
+        || stands::<TextToken>(tokens)
+        || stands::<TruthWord>(tokens)
+        || stands::<NameAt>(tokens)
+        || stands_word(tokens, Word::Classifier)
+        || stands_word(tokens, Word::Reference)
 }
 
-impl Beside<Leaf<TextToken>> for Text<Telling> {
-    ghost other = { refl };
-}
-
-/// Such a value, or a text.
-pub struct Quoting;
-
-impl Production for Quoting {
-    type Parts = Either<Leaf<TextToken>, Text<Telling>>;
-
-    type Value = PropertyValue;
-
-    ghost build = { either_of };
-
-    fn build(_alloc: Global, parts: <Self::Parts as Part>::Value) -> Self::Value {
-        either_of(parts)
+/// Reads a value that has no other values in it.
+pub fn simple_value(
+    alloc: Global,
+    tokens: &mut Cursor<'_, Placed<Token>>,
+) -> Result<PropertyValue, ReadFault>
+    ensures { Reads SpellsSimple (Without value_goes_on) tokens.old tokens.new result }
+{
+    if quantity_stands(tokens) {
+        let range = range(alloc, tokens)?;
+        return Ok(range);
     }
-}
-
-impl Part for Quoting {
-    type Value = PropertyValue;
-
-    ghost spells = { SpellsQuoting };
-
-    ghost starts = { quoting_starts };
-
-    ghost goes_on = { naming_goes_on };
-
-    fn stands(tokens: &Cursor<'_, Placed<Token>>) -> bool {
-        <Text<Quoting>>::stands(tokens)
+    if stands::<TextToken>(tokens) {
+        let text = read_one::<TextToken>(alloc, tokens)?;
+        return Ok(text);
     }
-
-    fn read(
-        alloc: Global,
-        tokens: &mut Cursor<'_, Placed<Token>>,
-    ) -> Result<Self::Value, ReadFault> {
-        <Text<Quoting>>::read(alloc, tokens)
+    if stands::<TruthWord>(tokens) {
+        let truth = read_one::<TruthWord>(alloc, tokens)?;
+        return Ok(PropertyValue::Truth(truth));
     }
-
-    ghost sample = { a_quoting };
-
-    ghost begun = { quoting-begun };
-}
-
-impl Beside<Text<RangeValue>> for Quoting {
-    ghost other = { refl };
-}
-
-/// Such a value, or a number or range: a value without other values in it.
-pub struct SimpleValue;
-
-impl Production for SimpleValue {
-    type Parts = Either<Text<RangeValue>, Quoting>;
-
-    type Value = PropertyValue;
-
-    ghost build = { either_of };
-
-    fn build(_alloc: Global, parts: <Self::Parts as Part>::Value) -> Self::Value {
-        either_of(parts)
+    if stands::<NameAt>(tokens) {
+        let name = qualified(alloc, tokens)?;
+        return Ok(PropertyValue::Name(name));
     }
-}
-
-impl Part for SimpleValue {
-    type Value = PropertyValue;
-
-    ghost spells = { SpellsSimple };
-
-    ghost starts = { simple_starts };
-
-    ghost goes_on = { value_goes_on };
-
-    fn stands(tokens: &Cursor<'_, Placed<Token>>) -> bool {
-        <Text<SimpleValue>>::stands(tokens)
+    if stands_word(tokens, Word::Classifier) {
+        let classifier = classifier(alloc, tokens)?;
+        return Ok(classifier);
     }
-
-    fn read(
-        alloc: Global,
-        tokens: &mut Cursor<'_, Placed<Token>>,
-    ) -> Result<Self::Value, ReadFault> {
-        <Text<SimpleValue>>::read(alloc, tokens)
-    }
-
-    ghost sample = { a_simple };
-
-    ghost begun = { simple-begun };
+    let reference = reference(alloc, tokens)?;
+    Ok(reference)
 }

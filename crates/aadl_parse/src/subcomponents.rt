@@ -1,76 +1,64 @@
-//! The production of subcomponents.
+//! Reading subcomponents.
 
-ghost use Rattle.std.specs.Prelude.{refl};
-ghost use Rattle.aadl_parse.specs.Builds.{subcomponent_of};
+ghost use Rattle.std.specs.Prelude.{[], refl};
 ghost use Rattle.aadl_parse.specs.Grammar.{SpellsSubcomponent};
+ghost use Rattle.aadl_parse.specs.Parts.{a_subcomponent};
+ghost use Rattle.aadl_parse.specs.Terminals.{name_shapes};
 
-use crate::classes::ClassText;
-use crate::leaf::Leaf;
-use crate::made::{Production, Text};
+use crate::classes::class;
+use crate::leaf::{read_one, stands};
 use crate::name_token::NameAt;
-use crate::own::EndingText;
+use crate::own::ending;
 use crate::part::{Behind, Part};
-use crate::sequence::{Before, Then};
-use crate::shape::Sign;
-use crate::symbol::points::Colon;
+use crate::section::Member;
+use crate::symbols::sign;
 use crate::word_token::CategoryWord;
-use aadl_tree::{Subcomponent, Token};
+use aadl_tree::{Mark, Subcomponent, Token};
 use hw_text::{Cursor, Placed, ReadFault};
 use std::alloc::Global;
 
-impl Behind<ClassText> for EndingText {
-    ghost apart = { refl };
-}
-
 /// NAME ":" cat class [ own ] ";"
 pub struct SubcomponentText;
-
-impl Production for SubcomponentText {
-    type Parts = Then<
-        Leaf<NameAt>,
-        Then<Sign<Colon>, Then<Leaf<CategoryWord>, Before<ClassText, EndingText>>>,
-    >;
-
-    type Value = Subcomponent;
-
-    ghost build = { subcomponent_of };
-
-    fn build(_alloc: Global, parts: <Self::Parts as Part>::Value) -> Self::Value {
-        let (name, ((), (category, (class, own)))) = parts;
-        Subcomponent {
-            name,
-            category,
-            class,
-            own,
-        }
-    }
-}
 
 impl Part for SubcomponentText {
     type Value = Subcomponent;
 
     ghost spells = { SpellsSubcomponent };
 
-    ghost starts = { ⟦<Text<SubcomponentText> as Part>⟧.starts };
+    ghost starts = { name_shapes };
 
-    ghost goes_on = { ⟦<Text<SubcomponentText> as Part>⟧.goes_on };
+    ghost goes_on = { [] };
 
-    ghost sample = { ⟦<Text<SubcomponentText> as Part>⟧.sample };
+    ghost sample = { a_subcomponent.sample };
 
-    ghost begun = { ⟦<Text<SubcomponentText> as Part>⟧.begun };
+    ghost begun = { a_subcomponent.begins };
 
     fn stands(tokens: &Cursor<'_, Placed<Token>>) -> bool {
-        <Text<SubcomponentText>>::stands(tokens)
+        stands::<NameAt>(tokens)
     }
 
     fn read(
         alloc: Global,
         tokens: &mut Cursor<'_, Placed<Token>>,
     ) -> Result<Self::Value, ReadFault> {
-        <Text<SubcomponentText>>::read(alloc, tokens)
+        let name = read_one::<NameAt>(alloc, tokens)?;
+        sign(tokens, Mark::Colon)?;
+        let category = read_one::<CategoryWord>(alloc, tokens)?;
+        let class = class(alloc, tokens)?;
+        let own = ending(alloc, tokens)?;
+        Ok(Subcomponent {
+            name,
+            category,
+            class,
+            own,
+        })
     }
 }
 
 impl Behind<SubcomponentText> for SubcomponentText {
     ghost apart = { refl };
+}
+
+impl Member for SubcomponentText {
+    ghost listed = { refl };
 }

@@ -1,24 +1,18 @@
 //! Reading property values.
 
-ghost use Rattle.std.specs.Prelude.{◌≡◌, [], ◌∷◌, ◌++◌, codes, true, refl};
+ghost use Rattle.std.specs.Prelude.{◌≡◌, [], ◌∷◌, ◌++◌, codes, true};
 ghost use Rattle.aadl_parse.specs.Terminals.{name_shapes};
 ghost use Rattle.hw_text.specs.Language.{Each, Made};
 ghost use Rattle.hw_text.specs.Reading.{Reads, begins};
 ghost use Rattle.aadl_parse.specs.Shapes.{one_of, Without};
-ghost use Rattle.aadl_parse.specs.SimpleValue.{SpellsSimple, SpellsFieldName, value_starts, value_goes_on, members_goes_on};
+ghost use Rattle.aadl_parse.specs.SimpleValue.{SpellsFieldName, simple_starts, value_starts, value_goes_on, members_goes_on};
 ghost use Rattle.aadl_parse.specs.ValueText.{SpellsValue, SpellsNext, SpellsEach, SpellsFirst, SpellsField};
 
-use crate::choice::Either;
-use crate::field_name::FieldName;
-use crate::leaf::Leaf;
-use crate::made::Text;
+use crate::leaf::{read_one, stands};
 use crate::name_token::BareName;
-use crate::part::{Beside, Part};
-use crate::shape::Sign;
-use crate::simple_value::SimpleValue;
-use crate::symbol::brackets::{CloseBracket, CloseParenthesis, OpenBracket, OpenParenthesis};
-use crate::symbol::points::{Comma, Semicolon};
-use aadl_tree::{PropertyValue, RecordField, Token};
+use crate::simple_value::{simple_stands, simple_value};
+use crate::symbols::{sign, stands_mark};
+use aadl_tree::{Mark, PropertyValue, RecordField, Token};
 use hw_text::{Cursor, Name, Placed, ReadFault, Rows};
 use std::alloc::Global;
 
@@ -30,13 +24,13 @@ pub fn read_value(
 ) -> Result<PropertyValue, ReadFault>
     ensures { Reads SpellsValue (Without value_goes_on) tokens.old tokens.new result }
 {
-    if Sign::<OpenParenthesis>::stands(tokens) {
+    if stands_mark(tokens, Mark::OpenParenthesis) {
         return read_list(alloc, tokens);
     }
-    if Sign::<OpenBracket>::stands(tokens) {
+    if stands_mark(tokens, Mark::OpenBracket) {
         return read_record(alloc, tokens);
     }
-    read_simple(alloc, tokens)
+    simple_value(alloc, tokens)
 }
 
 /// Reads a list, whose opening mark stands ahead.
@@ -48,9 +42,9 @@ fn read_list(
     requires { begins (one_of (codes "(" ∷ [])) tokens.old ≡ true }
     ensures { Reads SpellsValue (Without value_goes_on) tokens.old tokens.new result }
 {
-    Sign::<OpenParenthesis>::read(alloc, tokens)?;
+    sign(tokens, Mark::OpenParenthesis)?;
     let values = read_members(alloc, tokens)?;
-    Sign::<CloseParenthesis>::read(alloc, tokens)?;
+    sign(tokens, Mark::CloseParenthesis)?;
     Ok(PropertyValue::List(values))
 }
 
@@ -92,7 +86,7 @@ fn read_others(
     ensures { Reads (Made (λ later. earlier ++ later) (Each SpellsNext)) (Without members_goes_on) tokens.old tokens.new result }
 {
     let mut values = earlier;
-    'members: while Sign::<Comma>::stands(tokens) {
+    'members: while stands_mark(tokens, Mark::Comma) {
         let value = read_next(alloc, tokens)?;
         values.push(value)?;
     }
@@ -107,7 +101,7 @@ fn read_next(
 ) -> Result<PropertyValue, ReadFault>
     ensures { Reads SpellsNext (Without value_goes_on) tokens.old tokens.new result }
 {
-    Sign::<Comma>::read(alloc, tokens)?;
+    sign(tokens, Mark::Comma)?;
     let value = read_value(alloc, tokens)?;
     Ok(value)
 }
@@ -121,9 +115,9 @@ fn read_record(
     requires { begins (one_of (codes "[" ∷ [])) tokens.old ≡ true }
     ensures { Reads SpellsValue (Without value_goes_on) tokens.old tokens.new result }
 {
-    Sign::<OpenBracket>::read(alloc, tokens)?;
+    sign(tokens, Mark::OpenBracket)?;
     let fields = read_fields(alloc, tokens)?;
-    Sign::<CloseBracket>::read(alloc, tokens)?;
+    sign(tokens, Mark::CloseBracket)?;
     Ok(PropertyValue::Record(fields))
 }
 
@@ -136,7 +130,7 @@ fn read_fields(
     ensures { Reads (Each SpellsField) (Without name_shapes) tokens.old tokens.new result }
 {
     let mut fields = Rows::new(alloc);
-    'members: while name_stands(tokens) {
+    'members: while stands::<BareName>(tokens) {
         let field = read_field(alloc, tokens)?;
         fields.push(field)?;
     }
@@ -153,46 +147,28 @@ fn read_field(
 {
     let name = read_field_name(alloc, tokens)?;
     let value = read_value(alloc, tokens)?;
-    Sign::<Semicolon>::read(alloc, tokens)?;
+    sign(tokens, Mark::Semicolon)?;
     Ok(RecordField { name, value })
 }
 
-impl Beside<Sign<OpenBracket>> for SimpleValue {
-    ghost other = { refl };
-}
-
-type SetOrSimple = Either<Sign<OpenBracket>, SimpleValue>;
-
-impl Beside<Sign<OpenParenthesis>> for SetOrSimple {
-    ghost other = { refl };
-}
-
 /// Whether a token stands ahead with which a value may begin.
-pub fn value_stands(tokens: &Cursor<'_, Placed<Token>>) -> bool
+fn value_stands(tokens: &Cursor<'_, Placed<Token>>) -> bool
     ensures { result ≡ begins (one_of value_starts) tokens.now }
 {
-    Either::<Sign<OpenParenthesis>, SetOrSimple>::stands(tokens)
+    stands_mark(tokens, Mark::OpenParenthesis) || bracket_or_simple_stands(tokens)
 }
 
-fn name_stands(tokens: &Cursor<'_, Placed<Token>>) -> bool
-    ensures { result ≡ begins (one_of name_shapes) tokens.now }
+fn bracket_or_simple_stands(tokens: &Cursor<'_, Placed<Token>>) -> bool
+    ensures { result ≡ begins (one_of (codes "[" ∷ simple_starts)) tokens.now }
 {
-    Leaf::<BareName>::stands(tokens)
-}
-
-/// Reads a value that has no other values in it.
-fn read_simple(
-    alloc: Global,
-    tokens: &mut Cursor<'_, Placed<Token>>,
-) -> Result<PropertyValue, ReadFault>
-    ensures { Reads SpellsSimple (Without value_goes_on) tokens.old tokens.new result }
-{
-    SimpleValue::read(alloc, tokens)
+    stands_mark(tokens, Mark::OpenBracket) || simple_stands(tokens)
 }
 
 /// Reads the name of a field, and the mark behind it.
 fn read_field_name(alloc: Global, tokens: &mut Cursor<'_, Placed<Token>>) -> Result<Name, ReadFault>
     ensures { Reads SpellsFieldName (Without []) tokens.old tokens.new result }
 {
-    Text::<FieldName>::read(alloc, tokens)
+    let name = read_one::<BareName>(alloc, tokens)?;
+    sign(tokens, Mark::Association)?;
+    Ok(name)
 }

@@ -1,11 +1,11 @@
 -- The names of base types are names.
 use Rattle.std.proofs.Common.{codes, refl}
 use Rattle.hw_text.specs.Name.{is_reserved}
-use Rattle.aadl_tree.specs.declared.class.BaseType.{BaseType}
-use Rattle.aadl_tree.specs.declared.class.BaseType.TheVariants.{Boolean}
+use Rattle.hw_text.specs.declared.base_type.BaseType.{BaseType}
+use Rattle.hw_text.specs.declared.base_type.BaseType.TheVariants.{Boolean}
 use Rattle.aadl_tree.specs.declared.token.Token.TheVariants as token
 use Rattle.aadl_tree.specs.Allowed.{IsAllowed}
-use Rattle.aadl_tree.specs.Classes.{base_name}
+use Rattle.hw_text.specs.BaseTypes.{base_name}
 
 pub package-allowed : IsAllowed (token.Name (codes "base_types"))
 unfolding is_reserved

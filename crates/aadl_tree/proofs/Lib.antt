@@ -5,6 +5,7 @@ pub mod ApartValues
 pub mod BaseNames
 pub mod BehindTokens
 pub mod LaidOut
+pub mod LastNames
 pub mod NumberTokens
 pub mod OneReading
 pub mod OwnNames

@@ -12,10 +12,10 @@ use Rattle.aadl_tree.specs.declared.category.Category.TheVariants as category
 use Rattle.aadl_tree.specs.declared.names.QualifiedName.{QualifiedName}
 use Rattle.aadl_tree.specs.declared.names.Path.{Path}
 use Rattle.aadl_tree.specs.declared.names.ImplementationName.{ImplementationName}
-use Rattle.aadl_tree.specs.declared.class.BaseType.{BaseType}
+use Rattle.hw_text.specs.declared.base_type.BaseType.{BaseType}
 use Rattle.aadl_tree.specs.declared.class.Class.{Class}
 use Rattle.aadl_tree.specs.declared.class.Class.TheVariants.{Base, Model}
-use Rattle.aadl_tree.specs.Classes.{base_name}
+use Rattle.hw_text.specs.BaseTypes.{base_name}
 
 abbrev pub category_word : Category → Word
 category_word category.Data = word.Data

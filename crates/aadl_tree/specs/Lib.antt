@@ -6,6 +6,7 @@ pub mod Layout
 pub mod Lexed
 pub mod Marks
 pub mod Packages
+pub mod References
 pub mod Sheet
 pub mod Text
 pub mod Tokens

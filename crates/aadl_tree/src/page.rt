@@ -9,13 +9,12 @@ ghost use Rattle.aadl_tree.specs.Allowed.{IsAllowed};
 ghost use Rattle.aadl_tree.specs.Canonical.{base_tokens};
 
 use crate::annex_text::AnnexText;
-use crate::class::BaseType;
 use crate::integer::Integer;
 use crate::mark::Mark;
 use crate::quoted::Quoted;
 use crate::real::Real;
 use crate::word::Word;
-use hw_text::{Name, NoMemory, TextBuf};
+use hw_text::{BaseType, Name, NoMemory, TextBuf};
 use std::alloc::Global;
 use std::marker::Model;
 

@@ -4,4 +4,5 @@ pub mod LookUp
 pub mod Receivers
 pub mod TypeTable
 pub mod Types
+pub mod Usage
 pub mod Values

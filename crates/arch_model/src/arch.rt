@@ -1,14 +1,17 @@
 //! A well-formed architecture, and its look-ups.
 
-ghost use Rattle.std.specs.Prelude.{◌≡◌, ◌<◌, ◌≤◌, IfOk, length};
+ghost use Rattle.std.specs.Prelude.{◌≡◌, ◌<◌, ◌≤◌, IfOk, IsSomeAnd, length, slice_get};
 ghost use Rattle.arch_model.specs.Arch.{IsWellFormed};
 ghost use Rattle.arch_model.specs.LookUp.{pd_named, receivers_of};
 ghost use Rattle.arch_model.specs.Receivers.{receivers_left};
+ghost use Rattle.arch_model.specs.Usage.{has_receiver, has_sender, usage_of};
 
 use crate::name_index::NameIndex;
+use crate::receivers::ReceiverTable;
+use crate::usage::{has_sender, is_linked, usage_if};
 use crate::{
     ArchParts, Link, LinkList, Origin, OriginList, Pd, PdId, PdList, Port, PortId, PortList,
-    Receivers, TypeRow, TypeRowList,
+    Receivers, TypeRow, TypeRowList, Usage,
 };
 use hw_text::{Name, NoMemory};
 use std::alloc::Global;
@@ -24,19 +27,21 @@ pub struct Arch {
     frame: u64,
     origins: OriginList,
     names: NameIndex,
+    receivers: ReceiverTable,
 }
 
 impl Model for Arch {
     ghost use Rattle.arch_model.specs.declared.parts.ArchParts.{ArchParts};
     ghost use Rattle.arch_model.specs.Arch.{IsWellFormed};
-    ghost use Rattle.std.specs.Prelude.{◌≡◌, map};
+    ghost use Rattle.arch_model.specs.Receivers.{AreReceivers};
+    ghost use Rattle.std.specs.Prelude.{◌≡◌, map, length};
 
     ghost Value = { ArchParts };
 
     ghost view = { λ a. record { pds = a.pds; ports = a.ports; links = a.links; types = a.types; frame = a.frame; origins = a.origins } };
 
     ghost invariant = { λ a. IsWellFormed (record { pds = a.pds; ports = a.ports; links = a.links; types = a.types; frame = a.frame; origins = a.origins })
-        × (a.names ≡ map (λ pd. pd.name) a.pds) };
+        × (a.names ≡ map (λ pd. pd.name) a.pds) × AreReceivers a.links (length a.ports) a.receivers };
 }
 
 impl Arch {
@@ -54,6 +59,7 @@ impl Arch {
             origins,
         } = parts;
         let names = NameIndex::of(alloc, pds.rows())?;
+        let receivers = ReceiverTable::of(alloc, ports.len(), links.rows())?;
         Ok(Arch {
             pds,
             ports,
@@ -62,6 +68,7 @@ impl Arch {
             frame,
             origins,
             names,
+            receivers,
         })
     }
 
@@ -77,6 +84,14 @@ impl Arch {
         ensures well_formed { IsWellFormed self.now }
     {
         self.ports.rows()
+    }
+
+    /// How many ports there are. Each of at most 60 domains has at most 32.
+    pub fn port_count(&self) -> u32
+        ensures count { result ≡ length self.now.ports }
+        ensures well_formed { IsWellFormed self.now }
+    {
+        self.ports().len() as u32
     }
 
     pub fn links(&self) -> &[Link]
@@ -126,6 +141,31 @@ impl Arch {
         ensures receivers { receivers_left result ≡ receivers_of self.now.links port }
         ensures well_formed { IsWellFormed self.now }
     {
-        Receivers::new(self.links.rows(), port)
+        Receivers::new(self.receivers.list(port))
+    }
+
+    /// Whether a link begins at the port.
+    pub fn has_receiver(&self, port: PortId) -> bool
+        requires { port.0 < length self.now.ports }
+        ensures receiver { result ≡ has_receiver self.now.links port }
+    {
+        !self.receivers(port).is_empty()
+    }
+
+    /// Whether a link ends at the port.
+    pub fn has_sender(&self, port: PortId) -> bool
+        ensures sender { result ≡ has_sender self.now.links port }
+    {
+        has_sender(self.links(), port)
+    }
+
+    /// What the domain of a port uses it for.
+    pub fn usage(&self, port: PortId) -> Usage
+        requires { port.0 < length self.now.ports }
+        ensures usage { IsSomeAnd (slice_get self.now.ports port.0) (λ p. result ≡ usage_of self.now.links port p) }
+    {
+        let end = &self.ports()[port.0 as usize];
+        let linked = is_linked(self.links(), port, end.outward);
+        usage_if(linked, end.outward, end.kind)
     }
 }

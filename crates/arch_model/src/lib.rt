@@ -16,11 +16,12 @@ mod port;
 mod receivers;
 mod role;
 mod type_row;
+mod usage;
 
 pub use arch::Arch;
 pub use base_types::{EVENT_TYPE, base_rows, scalar_of};
 pub use form::Form;
-pub use id::{PdId, PortId};
+pub use id::{PdId, PortId, PortIdList};
 pub use kind::Kind;
 pub use laws::{base_is_table, one_type, ranked_rows_have_types};
 pub use link::{Link, LinkList};
@@ -31,3 +32,4 @@ pub use port::{Port, PortList};
 pub use receivers::Receivers;
 pub use role::Role;
 pub use type_row::{NumberList, TypeRow, TypeRowList};
+pub use usage::Usage;

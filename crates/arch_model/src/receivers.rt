@@ -1,25 +1,34 @@
 //! The receivers of a port, one after another.
 
-ghost use Rattle.std.specs.Prelude.{◌≡◌};
+ghost use Rattle.std.specs.Prelude.{◌≡◌, ◌<◌, ◌==◌, length, slice_index_or, IfOk};
 ghost use Rattle.std.specs.Iterator.{YieldsFirst, item_count};
 ghost use Rattle.arch_model.specs.LookUp.{receivers_of};
-ghost use Rattle.arch_model.specs.Receivers.{receivers_left};
+ghost use Rattle.arch_model.specs.Receivers.{receivers_left, AreReceivers};
 
-use crate::{Link, PortId};
+use crate::{Link, PortId, PortIdList};
+use hw_text::NoMemory;
+use std::alloc::Global;
+use std::marker::Model;
 
 /// Goes over the ports at which the links of one port end.
 #[derive(Drop)]
 pub struct Receivers<'a> {
-    links: &'a [Link],
-    from: PortId,
+    ports: &'a [PortId],
 }
 
 impl<'a> Receivers<'a> {
-    /// The receivers of `from` among these links.
-    pub fn new(links: &'a [Link], from: PortId) -> Self
-        ensures { receivers_left result ≡ receivers_of links.now from }
+    /// Goes over these ports.
+    pub fn new(ports: &'a [PortId]) -> Self
+        ensures { receivers_left result ≡ ports.now }
     {
-        Receivers { links, from }
+        Receivers { ports }
+    }
+
+    /// Whether none is left.
+    pub fn is_empty(&self) -> bool
+        ensures { result ≡ (length (receivers_left self.now) == 0) }
+    {
+        self.ports.is_empty()
     }
 }
 
@@ -31,12 +40,49 @@ impl<'a> Iterator for Receivers<'a> {
     ghost remaining = { item_count receivers_left };
 
     fn next(&mut self) -> Option<PortId> {
-        while let Some((link, rest)) = self.links.split_first() {
-            self.links = rest;
-            if link.from == self.from {
-                return Some(link.to);
+        let (port, rest) = self.ports.split_first()?;
+        self.ports = rest;
+        Some(*port)
+    }
+}
+
+/// The receivers of each port, by its number.
+#[derive(Debug, Drop)]
+pub struct ReceiverTable {
+    lists: Vec<PortIdList>,
+}
+
+impl Model for ReceiverTable {
+    ghost use Rattle.std.specs.Prelude.{List};
+    ghost use Rattle.arch_model.specs.declared.id.PortId.{PortId};
+
+    ghost Value = { List (List PortId) };
+
+    ghost view = { λ t. t.lists.items };
+}
+
+impl ReceiverTable {
+    /// The receivers of so many ports, by these links.
+    pub fn of(alloc: Global, ports: usize, links: &[Link]) -> Result<Self, NoMemory>
+        ensures { IfOk result (λ table. AreReceivers links.now ports table) }
+    {
+        let mut lists = Vec::with_capacity(alloc, ports)?;
+        for _port in 0..ports {
+            lists.push(PortIdList::new(alloc))?;
+        }
+        for link in links {
+            if (link.from.0 as usize) < ports {
+                lists[link.from.0 as usize].push(link.to)?;
             }
         }
-        None
+        Ok(ReceiverTable { lists })
+    }
+
+    /// The receivers of a port.
+    pub fn list(&self, port: PortId) -> &[PortId]
+        requires { port.0 < length self.now }
+        ensures { slice_index_or self.now port.0 result.now ≡ result.now }
+    {
+        self.lists[port.0 as usize].rows()
     }
 }

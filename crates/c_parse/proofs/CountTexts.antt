@@ -3,9 +3,8 @@ use Rattle.std.proofs.Common.{◌≡◌, ◌∙◌, refl, sym, ap, subst, Bool, 
 use Rattle.std.proofs.lemmas.Slice.Eq.{bytes_eq-Decides}
 use Rattle.hw_text.specs.declared.place.Place.{Place}
 use Rattle.hw_text.specs.declared.placed.Placed.{Placed}
-use Rattle.hw_text.specs.Language.{◌⋅◌, One}
-use Rattle.hw_text.specs.Reading.{begins, Begins, Anything, Reached, Stuck, Leaves}
-use Rattle.hw_text.proofs.Reading.{made-begins, then-begins}
+use Rattle.hw_text.specs.Language.{One}
+use Rattle.hw_text.specs.Reading.{begins, Anything, Reached, Stuck, Leaves}
 use Rattle.c_tree.specs.declared.identifier.Identifier.{Identifier}
 use Rattle.c_tree.specs.declared.integer_type.IntegerType.TheVariants.{I8}
 use Rattle.c_parse.specs.declared.counting.CountStart.{CountStart}
@@ -15,11 +14,12 @@ use Rattle.c_parse.specs.declared.keyword.Keyword.TheVariants as keyword
 use Rattle.c_parse.specs.declared.mark.Mark.TheVariants as mark
 use Rattle.c_parse.specs.Tokens.{start}
 use Rattle.c_parse.specs.Values.{Tokens, again_of, integer_of, found}
-use Rattle.c_parse.specs.ExpressionGrammar.{Sign, Name}
 use Rattle.c_parse.specs.CallGrammar.{SpellsSigned, plain_literal}
 use Rattle.c_parse.specs.CountGrammar.{SpellsCountStart, SpellsCountEnd, SpellsCount, count_start_of, count_end_of}
 use Rattle.c_parse.proofs.Steps.{Sample, both, sample_of}
 use Rattle.c_parse.proofs.Leaves.{put, the_sign, the_name, the_literal}
+use Rattle.c_parse.proofs.Shapes.{built, first}
+use Rattle.c_parse.proofs.TokenShapes.{Starts, starts_so, integers, integer_type}
 
 pub a_signed : Sample SpellsSigned
 a_signed = (plain_literal the_literal.0, the_literal.1, inl (the_literal.0, refl, the_literal.2))
@@ -72,7 +72,11 @@ module _ (before at : Tokens) where
         (y.1, text.1, ap (λ (a : CountStart). (a, y.1)) l.0, subst (λ (a : CountStart). SpellsCountEnd a.name.name y.1 text.1) l.0 text.4, l.1);
   }
 
-pub count_begins : (test : Placed Token → Bool) (so : Bool) → Begins test so (One integer_of) → Begins test so SpellsCount
-count_begins test so is p w m text = ap (λ (l : Tokens). begins test (l ++ m)) text.2 ∙ ap (begins test) (append_assoc text.0 text.1 m)
-    ∙ made-begins test so (One integer_of ⋅ Name ⋅ Sign mark.Assign ⋅ SpellsSigned ⋅ Sign mark.Semicolon) count_start_of
-    (then-begins test so (One integer_of) (Name ⋅ Sign mark.Assign ⋅ SpellsSigned ⋅ Sign mark.Semicolon) is) p.0 text.0 (text.1 ++ m) text.3
+start_starts : Starts integers SpellsCountStart
+start_starts = built _ (first _ (integer_type refl))
+
+pub count_starts : Starts integers SpellsCount
+count_starts = record {
+  begins = λ p w m text. ap (λ (l : Tokens). begins (starts_so integers) (l ++ m)) text.2 ∙ ap (begins (starts_so integers)) (append_assoc text.0 text.1 m)
+      ∙ start_starts.begins p.0 text.0 (text.1 ++ m) text.3;
+}

@@ -1,25 +1,23 @@
 -- Tokens in which what opens closes, and which end no expression: what is joined of them is such a text again.
-use Rattle.std.proofs.Common.{◌≡◌, ◌∙◌, refl, ap, ℕ, ◌+◌, ◌-◌, [], ◌∷◌, ◌++◌, Bool, true, false, ◌&&◌, ◌==◌, arith, Option, Some, None}
+use Rattle.std.proofs.Common.{map, ◌≡◌, ◌∙◌, refl, ap, ℕ, ◌+◌, ◌-◌, [], ◌∷◌, ◌++◌, Bool, true, false, ◌&&◌, ◌==◌, arith, Option, Some, None, ◌||◌, List, sym}
 use Rattle.std.specs.Prelude.{cond}
 use Rattle.std.specs.Option.{option_and_then}
 use Rattle.hw_text.specs.Language.{One}
 use Rattle.hw_text.specs.declared.place.Place.{Place}
 use Rattle.hw_text.specs.declared.placed.Placed.{Placed}
-use Rattle.c_tree.specs.declared.integer_type.IntegerType.{IntegerType}
 use Rattle.c_tree.specs.declared.named.Named.{Named}
-use Rattle.c_tree.specs.declared.named.Literal.{Literal}
-use Rattle.c_tree.specs.declared.operator.BinaryOperator.{BinaryOperator}
-use Rattle.c_tree.specs.declared.operator.UnaryOperator.{UnaryOperator}
 use Rattle.c_parse.specs.declared.token.Token.{Token}
 use Rattle.c_parse.specs.declared.token.Token.TheVariants as token
 use Rattle.c_parse.specs.declared.mark.Mark.{Mark}
 use Rattle.c_parse.specs.declared.mark.Mark.TheVariants as mark
 use Rattle.c_parse.specs.Nesting.{opens, closes, ends}
-use Rattle.c_parse.specs.Values.{Tokens, name_in, name_of, literal_in, truth_in, integer_in}
-use Rattle.c_parse.specs.Operators.{unary_in, operator_in, of_level}
+use Rattle.c_parse.specs.Values.{Tokens, name_of}
 use Rattle.c_parse.specs.ExpressionGrammar.{Sign}
-use Rattle.c_parse.proofs.TokenKinds.{none-some}
 use Rattle.c_parse.proofs.MarkTokens.{mark-token}
+use Rattle.hw_text.specs.Reading.{begins}
+use Rattle.std.proofs.lemmas.Bool.{false≢true}
+use Rattle.c_parse.proofs.Shapes.{is_disjoint, apart}
+use Rattle.c_parse.proofs.TokenShapes.{Means, Starts, by_kinds, sign_shape, a_name, of_kind}
 
 -- how many brackets are open behind these tokens, so many being open before them; none, where an expression ends before one of them
 abbrev pub inside : ℕ → Tokens → Option ℕ
@@ -60,41 +58,30 @@ plain-closed t plain d =
     ap (λ (o : Bool). step d o (closes t.token) (ends t.token)) plain.0 ∙ ap (λ (c : Bool). step d false c (ends t.token)) plain.1 ∙
     ap (step d false false) plain.2 ∙ ap Some (omega arith)
 
-pub one-closed : {X : Type 0} (of : Placed Token → Option X) → ((t : Placed Token) (x : X) → of t ≡ Some x → Plain t.token) → (x : X) (ws : Tokens) → One of x ws → Closed ws
-one-closed of plain x ws text = moved ws (text.0 ∷ []) text.1 (plain-closed text.0 (plain text.0 x text.2))
+-- the brackets, and what ends an expression
+abbrev pub bracket_shapes : List (List ℕ)
+bracket_shapes = map sign_shape
+    (mark.OpenParenthesis ∷ mark.OpenBracket ∷ mark.OpenBrace ∷ mark.CloseParenthesis ∷ mark.CloseBracket ∷ mark.CloseBrace ∷ mark.Semicolon ∷ mark.Comma ∷ [])
 
-pub literal-plain : (t : Token) (at : Place) (x : Literal) → literal_in t at ≡ Some x → Plain t
-literal-plain (token.Mark m) at x is = absurd (none-some x is)
-literal-plain _ at x is = (refl, refl, refl)
+abbrev pub is_bracket : Placed Token → Bool
+is_bracket t = opens t.token || (closes t.token || ends t.token)
 
-pub name-plain : (t : Token) (at : Place) (x : Named) → name_in t at ≡ Some x → Plain t
-name-plain (token.Mark m) at x is = absurd (none-some x is)
-name-plain _ at x is = (refl, refl, refl)
+a_bracket : Means is_bracket bracket_shapes
+a_bracket = by_kinds is_bracket bracket_shapes (λ p. refl) (λ p. refl) (λ n p. refl) (λ n p. refl) (λ n p. refl)
 
-pub truth-plain : (t : Token) (at : Place) (x : Place × Bool) → truth_in t at ≡ Some x → Plain t
-truth-plain (token.Mark m) at x is = absurd (none-some x is)
-truth-plain _ at x is = (refl, refl, refl)
+pub neither : (b c : Bool) → (b || c) ≡ false → (b ≡ false) × (c ≡ false)
+neither true c none = absurd (false≢true (sym none))
+neither false c none = (refl, none)
 
-pub integer-plain : (t : Token) (at : Place) (x : Place × IntegerType) → integer_in t at ≡ Some x → Plain t
-integer-plain (token.Mark m) at x is = absurd (none-some x is)
-integer-plain _ at x is = (refl, refl, refl)
+pub plain-of : (t : Placed Token) → is_bracket t ≡ false → Plain t.token
+plain-of t none =
+    let first = neither (opens t.token) (closes t.token || ends t.token) none in
+    let rest = neither (closes t.token) (ends t.token) first.1 in
+    (first.0, rest.0, rest.1)
 
-pub unary-plain : (t : Token) (at : Place) (x : Place × UnaryOperator) → unary_in t at ≡ Some x → Plain t
-unary-plain (token.Mark mark.Minus) at x is = (refl, refl, refl)
-unary-plain (token.Mark mark.Bang) at x is = (refl, refl, refl)
-unary-plain (token.Mark mark.Tilde) at x is = (refl, refl, refl)
-unary-plain _ at x is = absurd (none-some x is)
-
-pub binary-plain : (n : ℕ) (t : Token) (at : Place) (x : Place × BinaryOperator) → of_level n at (operator_in t) ≡ Some x → Plain t
-binary-plain n (token.Mark mark.OpenParenthesis) at x is = absurd (none-some x is)
-binary-plain n (token.Mark mark.OpenBracket) at x is = absurd (none-some x is)
-binary-plain n (token.Mark mark.OpenBrace) at x is = absurd (none-some x is)
-binary-plain n (token.Mark mark.CloseParenthesis) at x is = absurd (none-some x is)
-binary-plain n (token.Mark mark.CloseBracket) at x is = absurd (none-some x is)
-binary-plain n (token.Mark mark.CloseBrace) at x is = absurd (none-some x is)
-binary-plain n (token.Mark mark.Semicolon) at x is = absurd (none-some x is)
-binary-plain n (token.Mark mark.Comma) at x is = absurd (none-some x is)
-binary-plain n _ at x is = (refl, refl, refl)
+pub one-closed : {X : Type 0} {value : Placed Token → Option X} {zs : List (List ℕ)} → Starts zs (One value) → is_disjoint zs bracket_shapes ≡ true → (x : X) (ws : Tokens) → One value x ws → Closed ws
+one-closed so none x ws text =
+    moved ws (text.0 ∷ []) text.1 (plain-closed text.0 (plain-of text.0 (ap (λ (l : Tokens). begins is_bracket (l ++ [])) (sym text.1) ∙ apart a_bracket so none x ws [] text)))
 
 pub sign-closed : (m : Mark) → Plain (token.Mark m) → (p : Place) (ws : Tokens) → Sign m p ws → Closed ws
 sign-closed m plain p ws text =
@@ -102,4 +89,4 @@ sign-closed m plain p ws text =
     moved ws (text.0 ∷ []) text.1 (plain-closed text.0 (ap opens is ∙ plain.0, ap closes is ∙ plain.1, ap ends is ∙ plain.2))
 
 pub name-closed : (x : Named) (ws : Tokens) → One name_of x ws → Closed ws
-name-closed = one-closed name_of (λ t x is. name-plain t.token t.place x is)
+name-closed = one-closed (of_kind a_name) refl

@@ -14,11 +14,12 @@ use Rattle.c_parse.specs.declared.token.Token.TheVariants as token
 use Rattle.c_parse.specs.declared.mark.Mark.{Mark}
 use Rattle.c_parse.specs.declared.mark.Mark.TheVariants as mark
 use Rattle.c_parse.specs.Nesting.{opens, closes, ends}
-use Rattle.c_parse.specs.Values.{Tokens, literal_of, truth_of, integer_of}
-use Rattle.c_parse.specs.Operators.{unary_of, binary_at}
+use Rattle.c_parse.specs.Values.{Tokens}
 use Rattle.c_parse.specs.ExpressionGrammar.{Sign, Operation, SpellsBase, SpellsExpression, SpellsOperations, SpellsPrefix, SpellsLvalue, SpellsParts, chain, prefix, no_operation, an_operation, number, truth, value, parenthesised, unary, cast, lvalue, no_part, a_member, an_index}
-use Rattle.c_parse.proofs.Enclosed.{inside, inside-append, Closed, closed-append, moved, step, one-closed, literal-plain, name-closed, truth-plain, integer-plain, unary-plain, binary-plain, sign-closed}
+use Rattle.c_parse.proofs.Enclosed.{inside, inside-append, Closed, closed-append, moved, step, one-closed, name-closed, sign-closed}
 use Rattle.c_parse.proofs.MarkTokens.{mark-token}
+use Rattle.c_parse.proofs.Levels.{operator_starts}
+use Rattle.c_parse.proofs.TokenShapes.{a_literal, a_truth, a_unary, an_integer, of_kind}
 
 -- a bracket that opens, and the one that closes it
 pub record ArePair (m n : Mark) : Type 0 where
@@ -79,21 +80,21 @@ mutual
   operations-closed f n os ws (no_operation g k all ts is none) = moved ws [] none (λ d. refl)
   operations-closed f n os ws (an_operation g k o r rest us vs xs all ts is split operator right more) =
       moved ws (us ++ (vs ++ xs)) split
-      (closed-append us (vs ++ xs) (one-closed (binary_at n) (λ t x so. binary-plain n t.token t.place x so) o us operator)
+      (closed-append us (vs ++ xs) (one-closed (operator_starts n) refl o us operator)
       (closed-append vs xs (expression-closed f (n + 1) r vs right) (operations-closed f n rest xs more)))
 
   prefix-closed : (f : Dialect) (e : Expression) (ws : Tokens) → SpellsPrefix f e ws → Closed ws
-  prefix-closed f e ws (number g l d ts is one) = one-closed literal_of (λ t x so. literal-plain t.token t.place x so) l ws one
-  prefix-closed f e ws (truth g p d ts is one) = one-closed truth_of (λ t x so. truth-plain t.token t.place x so) p ws one
+  prefix-closed f e ws (number g l d ts is one) = one-closed (of_kind a_literal) refl l ws one
+  prefix-closed f e ws (truth g p d ts is one) = one-closed (of_kind a_truth) refl p ws one
   prefix-closed f e ws (value g l d ts is text) = lvalue-closed f l ws text
   prefix-closed f e ws (parenthesised g p q x ps us qs d ts is split opening inner end) =
       moved ws (ps ++ (us ++ qs)) split (bracketed mark.OpenParenthesis mark.CloseParenthesis parentheses p q ps us qs opening (expression-closed f _ x us inner) end)
   prefix-closed f e ws (unary g p x os us d ts is split operator operand) =
-      moved ws (os ++ us) split (closed-append os us (one-closed unary_of (λ t x so. unary-plain t.token t.place x so) p os operator) (prefix-closed f x us operand))
+      moved ws (os ++ us) split (closed-append os us (one-closed (of_kind a_unary) refl p os operator) (prefix-closed f x us operand))
   prefix-closed f e ws (cast g p q c x ps cs qs us d ts is split opening class end operand) =
       moved ws ((ps ++ (cs ++ qs)) ++ us) (split ∙ ap (λ (l : Tokens). ps ++ l) (sym (append_assoc cs qs us)) ∙ sym (append_assoc ps (cs ++ qs) us))
       (closed-append (ps ++ (cs ++ qs)) us
-      (bracketed mark.OpenParenthesis mark.CloseParenthesis parentheses p q ps cs qs opening (one-closed integer_of (λ t x so. integer-plain t.token t.place x so) c cs class) end)
+      (bracketed mark.OpenParenthesis mark.CloseParenthesis parentheses p q ps cs qs opening (one-closed (of_kind an_integer) refl c cs class) end)
       (prefix-closed f x us operand))
 
   lvalue-closed : (f : Dialect) (l : Lvalue) (ws : Tokens) → SpellsLvalue f l ws → Closed ws

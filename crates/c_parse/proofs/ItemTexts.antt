@@ -1,27 +1,26 @@
 -- Items: texts of their parts, and which stands ahead.
-use Rattle.std.proofs.Common.{◌≡◌, refl, subst, Bool, true, false, ◌&&◌, ◌++◌, List, [], Option, Some, None, inl, inr}
-use Rattle.hw_text.specs.declared.placed.Placed.{Placed}
+use Rattle.std.proofs.Common.{◌≡◌, refl, subst, Bool, true, false, ◌&&◌, ◌++◌, List, [], Option, Some, None, inl, inr, ◌∷◌}
 use Rattle.hw_text.specs.declared.place.Place.{Place}
 use Rattle.hw_text.specs.Language.{◌⋅◌, Made, Maybe}
-use Rattle.hw_text.specs.Reading.{begins, Begins, Anything, BeginsWith, BeginsWithout, Reached, Stuck, Leaves}
-use Rattle.hw_text.proofs.Reading.{made-begins, then-begins, maybe-begins}
+use Rattle.hw_text.specs.Reading.{begins, Anything, BeginsWith, BeginsWithout, Reached, Stuck, Leaves}
 use Rattle.c_tree.specs.declared.dialect.Dialect.{Dialect}
 use Rattle.c_tree.specs.Dialects.{is_full}
 use Rattle.c_tree.specs.declared.item.InitialValue.{InitialValue}
 use Rattle.c_tree.specs.declared.statement.Statement.{Statement}
-use Rattle.c_parse.specs.declared.token.Token.{Token}
 use Rattle.c_parse.specs.declared.keyword.Keyword.TheVariants as keyword
 use Rattle.c_parse.specs.declared.mark.Mark.TheVariants as mark
 use Rattle.c_parse.specs.Values.{Tokens, is_mark}
-use Rattle.c_parse.specs.Operators.{RightEnds, right_goes_on}
+use Rattle.c_parse.specs.Operators.{RightEnds}
 use Rattle.c_parse.specs.ExpressionGrammar.{Sign}
 use Rattle.c_parse.specs.CallGrammar.{Word, SpellsRightSide}
 use Rattle.c_parse.specs.StatementGrammar.{SpellsStatements, ends_body}
 use Rattle.c_parse.specs.UnitGrammar.{SpellsInitial, SpellsBody, SpellsEnding, SpellsParameters}
-use Rattle.c_parse.proofs.RightTexts.{a_right}
-use Rattle.c_parse.proofs.StatementTexts.{no_statements}
+use Rattle.c_parse.proofs.CallTexts.{a_right}
+use Rattle.c_parse.proofs.StatementTexts.{no_statements, a_body_end}
 use Rattle.c_parse.proofs.Steps.{Sample, both, sample_of, all_left, at_first, at_second, unmake, in_full, by_test, by_full, and_left, and_right, is_there, is_absent, stuck_by, passed_by}
-use Rattle.c_parse.proofs.Leaves.{the_sign, the_word, the_name, sign_begins, word_begins, this_sign}
+use Rattle.c_parse.proofs.Leaves.{the_sign, the_word, the_name}
+use Rattle.c_parse.proofs.Shapes.{built, first, wider, maybe_first, apart, among}
+use Rattle.c_parse.proofs.TokenShapes.{Starts, sign_shape, right_going_on, this_sign, this_word, of_kind, sign}
 
 abbrev pub Given : Option InitialValue → Tokens → Type 0
 Given = Maybe (Made (λ (p : Place × InitialValue). p.1) (Sign mark.Assign ⋅ SpellsInitial))
@@ -29,33 +28,34 @@ Given = Maybe (Made (λ (p : Place × InitialValue). p.1) (Sign mark.Assign ⋅ 
 pub an_initial : Sample SpellsInitial
 an_initial = (_, the_name.1, inr (inr (inl (the_name.0, refl, the_name.2))))
 
+given_starts : Starts (sign_shape mark.Assign ∷ []) (Made (λ (p : Place × InitialValue). p.1) (Sign mark.Assign ⋅ SpellsInitial))
+given_starts = built _ (first _ (sign mark.Assign refl))
+
+pub behind_length : Starts (sign_shape mark.Assign ∷ sign_shape mark.Semicolon ∷ []) (Given ⋅ Sign mark.Semicolon)
+behind_length = maybe_first (wider given_starts refl) (sign mark.Semicolon refl)
+
 pub length_follow : (y : Option InitialValue × Place) (w m : Tokens) → (Given ⋅ Sign mark.Semicolon) y w → Anything m → BeginsWithout (is_mark mark.OpenBracket) (w ++ m)
-length_follow y w m text follows = maybe-begins (is_mark mark.OpenBracket) false (Made (λ (p : Place × InitialValue). p.1) (Sign mark.Assign ⋅ SpellsInitial)) (Sign mark.Semicolon)
-    (made-begins (is_mark mark.OpenBracket) false (Sign mark.Assign ⋅ SpellsInitial) (λ p. p.1) (then-begins (is_mark mark.OpenBracket) false (Sign mark.Assign) SpellsInitial (sign_begins (is_mark mark.OpenBracket) false mark.Assign (λ p. refl))))
-    (sign_begins (is_mark mark.OpenBracket) false mark.Semicolon (λ p. refl)) y w m text
+length_follow y w m text follows = apart (this_sign mark.OpenBracket) behind_length refl y w m text
 
 pub given_follow : (y : Place) (w m : Tokens) → Sign mark.Semicolon y w → Anything m → BeginsWithout (is_mark mark.Assign) (w ++ m)
-given_follow y w m text follows = sign_begins (is_mark mark.Assign) false mark.Semicolon (λ p. refl) y w m text
+given_follow y w m text follows = apart (this_sign mark.Assign) (of_kind (this_sign mark.Semicolon)) refl y w m text
 
 pub parameters_follow : {X : Type 0} (C : X → Tokens → Type 0) (y : Place × X) (w m : Tokens) → (Sign mark.CloseParenthesis ⋅ C) y w → Anything m → BeginsWithout (is_mark mark.Comma) (w ++ m)
-parameters_follow C y w m text follows = then-begins (is_mark mark.Comma) false (Sign mark.CloseParenthesis) C (sign_begins (is_mark mark.Comma) false mark.CloseParenthesis (λ p. refl)) y w m text
-
-assign-begins : (test : Placed Token → Bool) (so : Bool) → Begins test so (Sign mark.Assign) → Begins test so (Made (λ (p : Place × InitialValue). p.1) (Sign mark.Assign ⋅ SpellsInitial))
-assign-begins test so is = made-begins test so (Sign mark.Assign ⋅ SpellsInitial) (λ p. p.1) (then-begins test so (Sign mark.Assign) SpellsInitial is)
+parameters_follow C y w m text follows = apart (this_sign mark.Comma) (first C (of_kind (this_sign mark.CloseParenthesis))) refl y w m text
 
 module _ (before : Tokens) where
   pub not_given : begins (is_mark mark.Assign) before ≡ false → Reached Given (BeginsWithout (is_mark mark.Assign)) before before None
-  not_given none = is_absent (all_left Given (BeginsWithout (is_mark mark.Assign)) before) (assign-begins (is_mark mark.Assign) true (this_sign mark.Assign)) none
+  not_given none = is_absent (all_left Given (BeginsWithout (is_mark mark.Assign)) before) {test = is_mark mark.Assign} (among (this_sign mark.Assign) given_starts refl) none
 
   pub given_there : begins (is_mark mark.Assign) before ≡ true → Leaves Given (BeginsWithout (is_mark mark.Assign)) before before (λ p. Some p.1) (Sign mark.Assign ⋅ SpellsInitial)
   given_there there = unmake (is_there (all_left Given (BeginsWithout (is_mark mark.Assign)) before) (λ m follows. follows) there)
 
 module _ (dialect : Dialect) where
   pub close_ends : (y : Place) (w m : Tokens) → Sign mark.CloseBrace y w → Anything m → BeginsWith ends_body (w ++ m)
-  close_ends y w m text follows = sign_begins ends_body true mark.CloseBrace (λ p. refl) y w m text
+  close_ends y w m text follows = among a_body_end (of_kind (this_sign mark.CloseBrace)) refl y w m text
 
   pub return_ends : (y : _) (w m : Tokens) → (Word keyword.Return ⋅ SpellsRightSide dialect ⋅ Sign mark.Semicolon ⋅ Sign mark.CloseBrace) y w → Anything m → BeginsWith ends_body (w ++ m)
-  return_ends y w m text follows = then-begins ends_body true (Word keyword.Return) (SpellsRightSide dialect ⋅ Sign mark.Semicolon ⋅ Sign mark.CloseBrace) (word_begins ends_body true keyword.Return (λ p. refl)) y w m text
+  return_ends y w m text follows = among a_body_end (first (SpellsRightSide dialect ⋅ Sign mark.Semicolon ⋅ Sign mark.CloseBrace) (of_kind (this_word keyword.Return))) refl y w m text
 
   pub a_body : (returns : Bool) → Sample (SpellsBody dialect returns)
   a_body true = sample_of (λ p. (p.0, Some p.1.1.0)) (both (no_statements dialect) (both (the_word keyword.Return) (both (a_right dialect) (both (the_sign mark.Semicolon) (the_sign mark.CloseBrace)))))
@@ -72,14 +72,13 @@ module _ (dialect : Dialect) where
 
     pub prototype_there : (is_full dialect && begins (is_mark mark.Semicolon) before) ≡ true → Leaves (SpellsEnding dialect returns) Anything before before (λ p. None) (Sign mark.Semicolon)
     prototype_there there = unmake (in_full dialect (at_first (all_left (SpellsEnding dialect returns) Anything before)
-        (by_test (made-begins (is_mark mark.Semicolon) false (Sign mark.OpenBrace ⋅ SpellsBody dialect returns) (λ p. Some p.1)
-        (then-begins (is_mark mark.Semicolon) false (Sign mark.OpenBrace) (SpellsBody dialect returns) (sign_begins (is_mark mark.Semicolon) false mark.OpenBrace (λ p. refl))))
+        (by_test (apart (this_sign mark.Semicolon) (built _ (first _ (of_kind (this_sign mark.OpenBrace)))) refl)
         (and_right (is_full dialect) (begins (is_mark mark.Semicolon) before) there)))
         (and_left (is_full dialect) (begins (is_mark mark.Semicolon) before) there))
 
     pub body_there : (is_full dialect && begins (is_mark mark.Semicolon) before) ≡ false → Leaves (SpellsEnding dialect returns) Anything before before (λ p. Some p.1) (Sign mark.OpenBrace ⋅ SpellsBody dialect returns)
     body_there none = unmake (at_second (all_left (SpellsEnding dialect returns) Anything before)
-        (by_full dialect (made-begins (is_mark mark.Semicolon) true (Sign mark.Semicolon) (λ p. None) (this_sign mark.Semicolon)) none))
+        (by_full dialect (among (this_sign mark.Semicolon) (built _ (of_kind (this_sign mark.Semicolon))) refl) none))
 
     pub body_stuck : {at : Tokens} → Stuck (SpellsStatements dialect) (BeginsWith ends_body) before at → Stuck (SpellsBody dialect returns) Anything before at
     body_stuck {at = at} part = by_kind returns refl
@@ -95,7 +94,7 @@ module _ (dialect : Dialect) where
     return_left is part = passed_by (unmake (body_left true is)) return_ends part
 
 pub right-semicolon-close : (F : Tokens → Type 0) (y : Place × Place) (w m : Tokens) → (Sign mark.Semicolon ⋅ Sign mark.CloseBrace) y w → F m → RightEnds (w ++ m)
-right-semicolon-close F y w m text follows = then-begins right_goes_on false (Sign mark.Semicolon) (Sign mark.CloseBrace) (sign_begins right_goes_on false mark.Semicolon (λ p. refl)) y w m text
+right-semicolon-close F y w m text follows = apart right_going_on (first (Sign mark.CloseBrace) (of_kind (this_sign mark.Semicolon))) refl y w m text
 
 pub some_parameters : (dialect : Dialect) → Sample (SpellsParameters dialect)
 some_parameters dialect = let v = the_word keyword.Void in ([], v.1, inl (v.0, refl, v.2))

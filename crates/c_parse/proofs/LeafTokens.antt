@@ -1,30 +1,30 @@
 -- Tokens that stand for a value or a word: behind none of them begins an expression, and none of them ends one.
-use Rattle.std.proofs.Common.{◌≡◌, ◌∙◌, refl, sym, ap, subst, ℕ, ◌≤◌, ◌++◌, [], ◌∷◌, length, Bool, true, false, Option, Some, inl, inr, arith}
-use Rattle.std.specs.Str.{bytes_eq}
+use Rattle.std.proofs.Common.{map, ◌||◌, List, ◌≡◌, ◌∙◌, refl, sym, ap, subst, ℕ, ◌≤◌, ◌++◌, [], ◌∷◌, length, Bool, true, false, Option, inl, inr, arith}
 use Rattle.std.proofs.lemmas.Bool.{false≢true}
 use Rattle.hw_text.specs.Language.{One}
 use Rattle.hw_text.specs.declared.place.Place.{Place}
 use Rattle.hw_text.specs.declared.placed.Placed.{Placed}
 use Rattle.c_tree.specs.declared.identifier.Identifier.{Identifier}
 use Rattle.c_tree.specs.declared.integer_type.IntegerType.{IntegerType}
-use Rattle.c_tree.specs.declared.integer_type.IntegerType.TheVariants as integer
 use Rattle.c_tree.specs.declared.named.Named.{Named}
 use Rattle.c_tree.specs.declared.named.Literal.{Literal}
 use Rattle.c_tree.specs.declared.type_name.TypeName.{TypeName}
 use Rattle.c_parse.specs.declared.keyword.Keyword.{Keyword}
 use Rattle.c_parse.specs.declared.keyword.Keyword.TheVariants as keyword
 use Rattle.c_parse.specs.declared.mark.Mark.{Mark}
+use Rattle.c_parse.specs.declared.mark.Mark.TheVariants as mark
 use Rattle.c_parse.specs.declared.token.Token.{Token}
 use Rattle.c_parse.specs.declared.token.Token.TheVariants as token
-use Rattle.c_parse.specs.Keywords.{keyword_text}
 use Rattle.c_parse.specs.Nesting.{opens, closes, ends, leads}
-use Rattle.c_parse.specs.Values.{Tokens, found, keyword_in, name_in, again_in, again_of, literal_in, literal_of, zero_in, zero_of, integer_in, integer_of, truth_in, truth_of}
+use Rattle.c_parse.specs.Values.{Tokens, again_of, literal_of, zero_of, integer_of, truth_of}
 use Rattle.c_parse.specs.ExpressionGrammar.{Sign, Name}
 use Rattle.c_parse.specs.CallGrammar.{Word, SpellsType}
-use Rattle.c_parse.proofs.Enclosed.{Closed, Plain, plain-closed, moved, literal-plain, name-plain, truth-plain, integer-plain}
+use Rattle.c_parse.proofs.Enclosed.{Closed, Plain, plain-closed, moved, bracket_shapes, is_bracket, neither, plain-of}
 use Rattle.c_parse.proofs.Explained.{Led, Ended, IsExplained, Explained}
 use Rattle.c_parse.proofs.MarkTokens.{mark-token}
-use Rattle.c_parse.proofs.TokenKinds.{none-some}
+use Rattle.hw_text.specs.Reading.{begins}
+use Rattle.c_parse.proofs.Shapes.{is_disjoint, apart, among}
+use Rattle.c_parse.proofs.TokenShapes.{Means, Starts, by_kinds, sign_shape, word_shape, a_name, a_literal, an_integer, a_truth, this_word, of_kind, again_starts, zero_starts}
 
 -- one token, which neither opens, closes nor ends anything, and behind which no expression begins
 abbrev pub IsLeaf : Tokens → Type 0
@@ -69,77 +69,53 @@ module _ (m : Mark) (p : Place) (ws : Tokens) (text : Sign m p ws) where
   pub sign-ended : ends (token.Mark m) ≡ true → (a : Tokens) → Ended (ws ++ a)
   sign-ended ended a = (text.0, a, ap (λ (l : Tokens). l ++ a) text.1, ap ends sign-is ∙ ended)
 
-name-unled : (t : Token) (at : Place) (x : Named) → name_in t at ≡ Some x → leads t ≡ false
-name-unled (token.Mark m) at x is = absurd (none-some x is)
-name-unled (token.Keyword w) at x is = absurd (none-some x is)
-name-unled _ at x is = refl
+-- what is no leaf
+abbrev busy_shapes : List (List ℕ)
+busy_shapes = sign_shape mark.Assign ∷ word_shape keyword.Return ∷ bracket_shapes
+
+abbrev is_busy : Placed Token → Bool
+is_busy t = is_bracket t || leads t.token
+
+busy : Means is_busy busy_shapes
+busy = by_kinds is_busy busy_shapes (λ p. refl) (λ p. refl) (λ n p. refl) (λ n p. refl) (λ n p. refl)
+
+leaf_of : {X : Type 0} {value : Placed Token → Option X} {zs : List (List ℕ)} → Starts zs (One value) → is_disjoint zs busy_shapes ≡ true → (x : X) (ws : Tokens) → One value x ws → IsLeaf ws
+leaf_of so none x ws text =
+    let t = text.0 in
+    let both = neither (is_bracket t) (leads t.token) (ap (λ (l : Tokens). begins is_busy (l ++ [])) (sym text.1) ∙ apart busy so none x ws [] text) in
+    (t, text.1, plain-of t both.0, both.1)
 
 pub name-leaf : (x : Named) (ws : Tokens) → Name x ws → IsLeaf ws
-name-leaf x ws text = (text.0, text.1, name-plain text.0.token text.0.place x text.2, name-unled text.0.token text.0.place x text.2)
-
-again-unled : (n : Identifier) (t : Token) (at p : Place) → again_in n t at ≡ Some p → Plain t × (leads t ≡ false)
-again-unled n (token.Mark m) at p is = absurd (none-some p is)
-again-unled n (token.Keyword w) at p is = absurd (none-some p is)
-again-unled n _ at p is = ((refl, refl, refl), refl)
+name-leaf = leaf_of (of_kind a_name) refl
 
 pub again-leaf : (n : Identifier) (p : Place) (ws : Tokens) → One (again_of n) p ws → IsLeaf ws
-again-leaf n p ws text = let known = again-unled n text.0.token text.0.place p text.2 in (text.0, text.1, known.0, known.1)
-
-literal-unled : (t : Token) (at : Place) (x : Literal) → literal_in t at ≡ Some x → leads t ≡ false
-literal-unled (token.Mark m) at x is = absurd (none-some x is)
-literal-unled (token.Keyword w) at x is = absurd (none-some x is)
-literal-unled _ at x is = refl
+again-leaf n = leaf_of (again_starts n) refl
 
 pub literal-leaf : (x : Literal) (ws : Tokens) → One literal_of x ws → IsLeaf ws
-literal-leaf x ws text = (text.0, text.1, literal-plain text.0.token text.0.place x text.2, literal-unled text.0.token text.0.place x text.2)
-
-zero-unled : (t : Token) (at p : Place) → zero_in t at ≡ Some p → Plain t × (leads t ≡ false)
-zero-unled (token.Mark m) at p is = absurd (none-some p is)
-zero-unled (token.Keyword w) at p is = absurd (none-some p is)
-zero-unled _ at p is = ((refl, refl, refl), refl)
+literal-leaf = leaf_of (of_kind a_literal) refl
 
 pub zero-leaf : (p : Place) (ws : Tokens) → One zero_of p ws → IsLeaf ws
-zero-leaf p ws text = let known = zero-unled text.0.token text.0.place p text.2 in (text.0, text.1, known.0, known.1)
-
-integer-unled : (t : Token) (at : Place) (x : Place × IntegerType) → integer_in t at ≡ Some x → leads t ≡ false
-integer-unled (token.Mark m) at x is = absurd (none-some x is)
-integer-unled (token.Keyword keyword.Return) at x is = absurd (none-some x is)
-integer-unled _ at x is = refl
+zero-leaf = leaf_of zero_starts refl
 
 pub integer-leaf : (x : Place × IntegerType) (ws : Tokens) → One integer_of x ws → IsLeaf ws
-integer-leaf x ws text = (text.0, text.1, integer-plain text.0.token text.0.place x text.2, integer-unled text.0.token text.0.place x text.2)
-
-truth-unled : (t : Token) (at : Place) (x : Place × Bool) → truth_in t at ≡ Some x → leads t ≡ false
-truth-unled (token.Mark m) at x is = absurd (none-some x is)
-truth-unled (token.Keyword keyword.Return) at x is = absurd (none-some x is)
-truth-unled _ at x is = refl
+integer-leaf = leaf_of (of_kind an_integer) refl
 
 pub truth-leaf : (x : Place × Bool) (ws : Tokens) → One truth_of x ws → IsLeaf ws
-truth-leaf x ws text = (text.0, text.1, truth-plain text.0.token text.0.place x text.2, truth-unled text.0.token text.0.place x text.2)
+truth-leaf = leaf_of (of_kind a_truth) refl
 
--- the word `return` is none of the other words
-word-unled : (w : Keyword) → bytes_eq (keyword_text keyword.Return) (keyword_text w) ≡ false → (t : Token) (at p : Place) → keyword_in w t at ≡ Some p → Plain t × (leads t ≡ false)
-word-unled w other (token.Mark m) at p is = absurd (none-some p is)
-word-unled w other (token.Keyword keyword.Return) at p is = absurd (none-some p (ap (λ (b : Bool). found b at) (sym other) ∙ is))
-word-unled w other _ at p is = ((refl, refl, refl), refl)
+-- a word other than `return`
+pub word-leaf : (w : Keyword) → is_disjoint (word_shape w ∷ []) busy_shapes ≡ true → (p : Place) (ws : Tokens) → Word w p ws → IsLeaf ws
+word-leaf w other = leaf_of (of_kind (this_word w)) other
 
-pub word-leaf : (w : Keyword) → bytes_eq (keyword_text keyword.Return) (keyword_text w) ≡ false → (p : Place) (ws : Tokens) → Word w p ws → IsLeaf ws
-word-leaf w other p ws text = let known = word-unled w other text.0.token text.0.place p text.2 in (text.0, text.1, known.0, known.1)
+abbrev leads_on : Placed Token → Bool
+leads_on t = leads t.token
 
-return-leads : (t : Token) (at p : Place) → keyword_in keyword.Return t at ≡ Some p → leads t ≡ true
-return-leads (token.Keyword keyword.Return) at p is = refl
-return-leads (token.Keyword (keyword.Integer integer.I8)) at p is = absurd (none-some p is)
-return-leads (token.Keyword (keyword.Integer integer.I16)) at p is = absurd (none-some p is)
-return-leads (token.Keyword (keyword.Integer integer.I32)) at p is = absurd (none-some p is)
-return-leads (token.Keyword (keyword.Integer integer.I64)) at p is = absurd (none-some p is)
-return-leads (token.Keyword (keyword.Integer integer.U8)) at p is = absurd (none-some p is)
-return-leads (token.Keyword (keyword.Integer integer.U16)) at p is = absurd (none-some p is)
-return-leads (token.Keyword (keyword.Integer integer.U32)) at p is = absurd (none-some p is)
-return-leads (token.Keyword (keyword.Integer integer.U64)) at p is = absurd (none-some p is)
-return-leads _ at p is = absurd (none-some p is)
+a_lead : Means leads_on (word_shape keyword.Return ∷ map sign_shape (mark.Assign ∷ mark.OpenParenthesis ∷ mark.OpenBracket ∷ mark.Comma ∷ []))
+a_lead = by_kinds leads_on (word_shape keyword.Return ∷ map sign_shape (mark.Assign ∷ mark.OpenParenthesis ∷ mark.OpenBracket ∷ mark.Comma ∷ [])) (λ p. refl) (λ p. refl) (λ n p. refl) (λ n p. refl) (λ n p. refl)
 
 pub return-led : (p : Place) (ws b : Tokens) → Word keyword.Return p ws → Led (b ++ ws)
-return-led p ws b text = (b, text.0, ap (λ (l : Tokens). b ++ l) text.1, return-leads text.0.token text.0.place p text.2)
+return-led p ws b text =
+    (b, text.0, ap (λ (l : Tokens). b ++ l) text.1, ap (λ (l : Tokens). begins leads_on (l ++ [])) (sym text.1) ∙ among a_lead (of_kind (this_word keyword.Return)) refl p ws [] text)
 
 pub type-leaf : (c : TypeName) (ws : Tokens) → SpellsType c ws → IsLeaf ws
 type-leaf c ws (inl (x, is, class)) = integer-leaf x ws class

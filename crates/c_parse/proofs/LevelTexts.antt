@@ -15,12 +15,12 @@ use Rattle.c_tree.specs.declared.expression.Expression.TheVariants.{Binary}
 use Rattle.c_parse.specs.Values.{Tokens, name_token}
 use Rattle.c_parse.specs.Levels.{prefix_level}
 use Rattle.c_parse.specs.Operators.{binary_at, operates, Ends}
-use Rattle.c_parse.specs.Forms.{form_ahead}
 use Rattle.c_parse.specs.ExpressionGrammar.{chained, SpellsExpression, SpellsOperations, SpellsPrefix, chain, prefix}
 use Rattle.c_parse.specs.PartGrammar.{from_name}
-use Rattle.c_parse.proofs.Pieces.{whole}
+use Rattle.c_parse.proofs.Shapes.{some_token}
 use Rattle.c_parse.proofs.Chains.{chain-read, right-stuck, right-read}
-use Rattle.c_parse.proofs.OperandTexts.{some-form}
+use Rattle.c_parse.proofs.OperandTexts.{expression_starts}
+use Rattle.c_parse.proofs.Steps.{all_left}
 
 operator-there : (n : ℕ) (ts : Tokens) (o : Place × BinaryOperator) → ahead (binary_at n) ts ≡ Some o → begins (operates n) ts ≡ true
 operator-there n [] o there = absurd (false≢true (ap is_some there))
@@ -30,16 +30,12 @@ operator-none : (n : ℕ) (ts : Tokens) → ahead (binary_at n) ts ≡ None → 
 operator-none n [] none = refl
 operator-none n (t ∷ ts) none = ap is_some none
 
-some-tokens : (w : Tokens) → (w ≡ [] → ⊥) → 0 < length w
-some-tokens [] none = absurd (none refl)
-some-tokens (t ∷ w) none = omega arith
-
 module _ (dialect : Dialect) (n : ℕ) where
   abbrev OfLevel : Expression → Tokens → Type 0
   OfLevel = SpellsExpression dialect n
 
   pub expression-some : (e : Expression) (w : Tokens) → OfLevel e w → 0 < length w
-  expression-some e w text = some-tokens w (λ none. some-form dialect n e w [] text (ap (λ (l : Tokens). form_ahead (l ++ [])) none))
+  expression-some = some_token (expression_starts dialect n)
 
   -- a name that was passed is part of what is read from it on
   pub passed-shorter : (passed : Option Named) (ts after : Tokens) (e : Expression) → Reached OfLevel (Ends n) (from_name passed ts) after e → length after ≤ length ts
@@ -48,7 +44,7 @@ module _ (dialect : Dialect) (n : ℕ) where
 
   -- an expression of the tightest level is an operand
   pub tightest : n ≡ prefix_level → (before : Tokens) → Leaves OfLevel (Ends n) before before (λ e. e) (SpellsPrefix dialect)
-  tightest is before = refined OfLevel (Ends n) before before (λ e. e) OfLevel (λ e. e) (SpellsPrefix dialect) (whole OfLevel (Ends n) before)
+  tightest is before = refined OfLevel (Ends n) before before (λ e. e) OfLevel (λ e. e) (SpellsPrefix dialect) (all_left OfLevel (Ends n) before)
       (λ e w text. prefix dialect n e w is text) narrows
     where
       narrows : (e : Expression) (w m : Tokens) → OfLevel e w → Ends n m → first (w ++ m) ≡ first before → (x : Expression) × (e ≡ x) × SpellsPrefix dialect x w

@@ -1,5 +1,5 @@
 -- With which tokens expressions of neighbouring levels go on.
-use Rattle.std.proofs.Common.{◌≡◌, ◌+◌, refl, ℕ, Bool, true, false, ◌||◌, ◌==◌, [], ◌∷◌, Option, Some, None, cond, arith}
+use Rattle.std.proofs.Common.{◌≡◌, ◌+◌, refl, ℕ, List, Bool, true, false, ◌||◌, ◌==◌, [], ◌∷◌, Option, Some, None, cond, arith, ◌∙◌, sym}
 use Rattle.std.proofs.lemmas.Bool.Decides.{nat_tests}
 use Rattle.std.specs.Prelude.{is_some, nat_le}
 use Rattle.std.proofs.lemmas.Bool.{false≢true}
@@ -7,12 +7,13 @@ use Rattle.hw_text.specs.declared.place.Place.{Place}
 use Rattle.hw_text.specs.declared.placed.Placed.{Placed}
 use Rattle.c_tree.specs.declared.operator.BinaryOperator.{BinaryOperator}
 use Rattle.c_parse.specs.declared.token.Token.{Token}
-use Rattle.c_parse.specs.declared.token.Token.TheVariants as token
-use Rattle.c_parse.specs.declared.mark.Mark.TheVariants as mark
 use Rattle.c_parse.specs.Values.{Tokens}
 use Rattle.c_parse.specs.Levels.{binary_level}
 use Rattle.c_parse.specs.Operators.{operator_in, of_level, binary_at, operates, at_least, is_selector, goes_on, Ends}
+use Rattle.c_parse.proofs.Shapes.{is_disjoint, one, apart}
+use Rattle.c_parse.proofs.TokenShapes.{Means, Starts, by_kinds, binary_operators, a_selector}
 use Rattle.c_parse.proofs.TokenKinds.{none-some}
+use Rattle.hw_text.specs.Language.{One}
 
 up : (n k : ℕ) → nat_le n k ≡ false → nat_le (n + 1) k ≡ false
 up n k none = grind (arith, nat_tests)
@@ -47,44 +48,23 @@ of_level-above : (n : ℕ) (at : Place) (o : Option BinaryOperator) (x : Place �
 of_level-above n at None x is = refl
 of_level-above n at (Some operator) x is = above n (binary_level operator) at operator x (binary_level operator == n) refl is
 
-no-selector : (n : ℕ) (t : Token) (at : Place) (x : Place × BinaryOperator) → of_level n at (operator_in t) ≡ Some x → is_selector (record { token = t; place = at }) ≡ false
-no-selector n (token.Name a) at x is = refl
-no-selector n (token.Keyword a) at x is = refl
-no-selector n (token.Reserved a) at x is = refl
-no-selector n (token.Literal a) at x is = refl
-no-selector n (token.Mark mark.ShiftLeft) at x is = refl
-no-selector n (token.Mark mark.ShiftRight) at x is = refl
-no-selector n (token.Mark mark.LessOrEqual) at x is = refl
-no-selector n (token.Mark mark.GreaterOrEqual) at x is = refl
-no-selector n (token.Mark mark.Equal) at x is = refl
-no-selector n (token.Mark mark.NotEqual) at x is = refl
-no-selector n (token.Mark mark.And) at x is = refl
-no-selector n (token.Mark mark.Or) at x is = refl
-no-selector n (token.Mark mark.Increment) at x is = refl
-no-selector n (token.Mark mark.Decrement) at x is = refl
-no-selector n (token.Mark mark.Arrow) at x is = absurd (none-some x is)
-no-selector n (token.Mark mark.OpenBrace) at x is = refl
-no-selector n (token.Mark mark.CloseBrace) at x is = refl
-no-selector n (token.Mark mark.OpenParenthesis) at x is = refl
-no-selector n (token.Mark mark.CloseParenthesis) at x is = refl
-no-selector n (token.Mark mark.OpenBracket) at x is = absurd (none-some x is)
-no-selector n (token.Mark mark.CloseBracket) at x is = refl
-no-selector n (token.Mark mark.Semicolon) at x is = refl
-no-selector n (token.Mark mark.Comma) at x is = refl
-no-selector n (token.Mark mark.Dot) at x is = absurd (none-some x is)
-no-selector n (token.Mark mark.Assign) at x is = refl
-no-selector n (token.Mark mark.Less) at x is = refl
-no-selector n (token.Mark mark.Greater) at x is = refl
-no-selector n (token.Mark mark.Plus) at x is = refl
-no-selector n (token.Mark mark.Minus) at x is = refl
-no-selector n (token.Mark mark.Star) at x is = refl
-no-selector n (token.Mark mark.Slash) at x is = refl
-no-selector n (token.Mark mark.Percent) at x is = refl
-no-selector n (token.Mark mark.Ampersand) at x is = refl
-no-selector n (token.Mark mark.Bar) at x is = refl
-no-selector n (token.Mark mark.Caret) at x is = refl
-no-selector n (token.Mark mark.Bang) at x is = refl
-no-selector n (token.Mark mark.Tilde) at x is = refl
+-- an operator of a level is one of those with which an expression goes on
+abbrev is_operator : Placed Token → Bool
+is_operator t = is_some (operator_in t.token)
+
+an_operator : Means is_operator binary_operators
+an_operator = by_kinds is_operator binary_operators (λ p. refl) (λ p. refl) (λ n p. refl) (λ n p. refl) (λ n p. refl)
+
+level-operator : (n : ℕ) (at : Place) (o : Option BinaryOperator) (x : Place × BinaryOperator) → of_level n at o ≡ Some x → is_some o ≡ true
+level-operator n at None x is = absurd (none-some x is)
+level-operator n at (Some operator) x is = refl
+
+pub operator_starts : (n : ℕ) → Starts binary_operators (One (binary_at n))
+operator_starts n = one (λ t x is. sym (an_operator.is t) ∙ level-operator n t.place (operator_in t.token) x is)
+
+-- a token that is none of these shapes is no operator
+pub operator-shape : {test : Placed Token → Bool} {xs : List (List ℕ)} → Means test xs → is_disjoint binary_operators xs ≡ true → (n : ℕ) (t : Placed Token) (x : Place × BinaryOperator) → binary_at n t ≡ Some x → test t ≡ false
+operator-shape means none n t x is = apart means (operator_starts n) none x (t ∷ []) [] (t, refl, is)
 
 both : (b c : Bool) → b ≡ false → c ≡ false → (b || c) ≡ false
 both true c one other = one
@@ -93,7 +73,7 @@ both false c one other = other
 -- an operator of a level is none with which the next level goes on
 pub binary-ends : (n : ℕ) (t : Placed Token) (x : Place × BinaryOperator) → binary_at n t ≡ Some x → goes_on (n + 1) t ≡ false
 binary-ends n t x is =
-    both (is_selector t) (at_least (n + 1) (operator_in t.token)) (no-selector n t.token t.place x is)
+    both (is_selector t) (at_least (n + 1) (operator_in t.token)) (operator-shape a_selector refl n t x is)
     (of_level-above n t.place (operator_in t.token) x is)
 
 within : (n k : ℕ) (at : Place) (operator : BinaryOperator) (v : Bool) → (k == n) ≡ v → is_some (found_if v (at, operator)) ≡ true → nat_le n k ≡ true

@@ -1,5 +1,5 @@
 -- What has been read of a list, member by member.
-use Rattle.std.proofs.Common.{◌≡◌, ◌∙◌, refl, sym, ap, subst, List, [], ◌∷◌, ◌++◌, Bool, true, false, append_assoc, append-nil, length, ◌<◌, length-append, arith}
+use Rattle.std.proofs.Common.{◌≡◌, ◌∙◌, refl, sym, ap, subst, ℕ, List, [], ◌∷◌, ◌++◌, Bool, true, false, append_assoc, append-nil, length, ◌<◌, length-append, arith}
 use Rattle.std.specs.Prelude.{⊤, not}
 use Rattle.std.proofs.lemmas.Bool.{false≢true}
 use Rattle.hw_text.specs.declared.placed.Placed.{Placed}
@@ -8,6 +8,7 @@ use Rattle.hw_text.specs.Reading.{begins, Begins, Reached, Stuck, Leaves}
 use Rattle.hw_text.proofs.Reading.{begun, more, no_more, rebuilt, ended, step, stuck, first-begins}
 use Rattle.c_parse.specs.declared.token.Token.{Token}
 use Rattle.c_parse.specs.Values.{Tokens}
+use Rattle.c_parse.proofs.TokenShapes.{Starts, starts_so}
 use Rattle.c_parse.specs.CallGrammar.{Following}
 
 abbrev pub any_token : Placed Token → Bool
@@ -20,6 +21,13 @@ pub record Listed {X : Type 0} (A : X → Tokens → Type 0) (test : Placed Toke
   pub ends : (m : Tokens) → F m → begins test m ≡ not so
   pub follow : (m : Tokens) → F m → Behind m
   pub next : (x : X) (w m : Tokens) → A x w → Behind (w ++ m)
+
+pub some_member : {X : Type 0} {A : X → Tokens → Type 0} {xs : List (List ℕ)} → Starts xs A → Begins any_token true A
+some_member {xs = xs} so x w m text = at (w ++ m) (so.begins x w m text)
+  where
+    at : (l : Tokens) → begins (starts_so xs) l ≡ true → begins any_token l ≡ true
+    at [] is = is
+    at (t ∷ l) is = refl
 
 apart : (b c so : Bool) → b ≡ so → b ≡ c → c ≡ not so → ⊥
 apart b c true is same other = false≢true (sym other ∙ sym same ∙ is)

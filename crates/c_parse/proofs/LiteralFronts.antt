@@ -8,7 +8,7 @@ use Rattle.c_tree.specs.Numerals.{is_in, begins_in, past_one, past_all, begins_h
 use Rattle.c_tree.specs.Spellings.{numeral_of}
 use Rattle.c_tree.proofs.Spellings.{numeral_of_bytes}
 use Rattle.c_tree.specs.declared.numeral.Numeral.{Numeral}
-use Rattle.c_tree.specs.Words.{begins_name, continues_name}
+use Rattle.c_tree.specs.Names.{begins_name, continues_name}
 use Rattle.c_tree.specs.declared.byte_class.ByteClass.{ByteClass}
 use Rattle.c_tree.specs.declared.byte_class.ByteClass.TheVariants.{Zero, Digit, HexDigit, BaseMark, Unsigned, Long}
 use Rattle.c_parse.specs.Tokens.{literal_token, token_at}

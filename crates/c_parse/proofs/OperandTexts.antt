@@ -1,189 +1,219 @@
--- What an operand is, by the token ahead.
-use Rattle.std.proofs.Common.{◌≡◌, ◌∙◌, refl, sym, ap, subst, ℕ, ◌+◌, List, ◌++◌, append_assoc, inl, inr}
-use Rattle.hw_text.specs.Language.{One, ◌⋅◌, Made, ◌∣◌}
-use Rattle.hw_text.specs.Reading.{first, Anything, Reached, Stuck, Leaves}
-use Rattle.hw_text.proofs.Reading.{refined, unmade}
+-- How operands and expressions begin, and which operand stands ahead.
+use Rattle.std.proofs.Common.{◌≡◌, ◌∙◌, refl, sym, ap, ℕ, ◌+◌, List, [], ◌∷◌, ◌++◌, append_assoc, true, false, inl, inr}
+use Rattle.std.specs.Prelude.{◌&&◌}
+use Rattle.hw_text.specs.Language.{◌⋅◌, Made, ◌∣◌}
+use Rattle.hw_text.specs.Reading.{begins, Leaves}
+use Rattle.hw_text.proofs.Reading.{begun, refined}
 use Rattle.hw_text.specs.declared.place.Place.{Place}
-use Rattle.c_tree.specs.Starts.{started_at, value_of}
+use Rattle.c_tree.specs.Dialects.{is_full}
+use Rattle.c_tree.specs.Starts.{value_of}
 use Rattle.c_tree.specs.declared.dialect.Dialect.{Dialect}
 use Rattle.c_tree.specs.declared.integer_type.IntegerType.{IntegerType}
 use Rattle.c_tree.specs.declared.named.Named.{Named}
-use Rattle.c_tree.specs.declared.operator.UnaryOperator.{UnaryOperator}
 use Rattle.c_tree.specs.declared.expression.Base.{Base}
 use Rattle.c_tree.specs.declared.expression.Base.TheVariants as base
 use Rattle.c_tree.specs.declared.expression.Selector.{Selector}
 use Rattle.c_tree.specs.declared.expression.Lvalue.{Lvalue}
 use Rattle.c_tree.specs.declared.expression.Expression.{Expression}
-use Rattle.c_tree.specs.declared.expression.Expression.TheVariants.{Value, Unary, Cast}
-use Rattle.c_parse.specs.declared.form.Form.{Form}
-use Rattle.c_parse.specs.declared.form.Form.TheVariants as form
+use Rattle.c_tree.specs.declared.expression.Expression.TheVariants.{Number, Cast}
 use Rattle.c_parse.specs.declared.mark.Mark.TheVariants as mark
-use Rattle.c_parse.specs.Values.{Tokens}
-use Rattle.c_parse.specs.Levels.{prefix_level}
-use Rattle.c_parse.specs.Operators.{unary_of, Ends}
-use Rattle.c_parse.specs.Forms.{form_ahead}
-use Rattle.c_parse.specs.ExpressionGrammar.{Sign, InFull, SpellsExpression, SpellsPrefix, SpellsLvalue, SpellsParts, SpellsWhole, chain, prefix, number, truth, value, parenthesised, unary, cast, lvalue}
-use Rattle.c_parse.specs.PartGrammar.{SpellsNumber, SpellsTruth, SpellsPointed, SpellsTarget}
-use Rattle.c_parse.proofs.Pieces.{whole}
-use Rattle.c_parse.proofs.TwoParts as two
-use Rattle.c_parse.proofs.SmallTexts.{operand-text}
-use Rattle.c_parse.proofs.BaseTexts.{free}
-use Rattle.c_parse.proofs.FormTokens.{literal-begins, truth-begins, name-begins, unary-begins, sign-begins, behind-form, first-form}
+use Rattle.c_parse.specs.Values.{Tokens, is_mark, is_name, is_literal, is_truth, is_integer}
+use Rattle.c_parse.specs.Levels.{prefix_level, loosest_level}
+use Rattle.c_parse.specs.Operators.{is_unary, Ends}
+use Rattle.c_parse.specs.ExpressionGrammar.{Sign, SpellsExpression, SpellsPrefix, SpellsLvalue, SpellsParts, SpellsWhole, chain, prefix, number, truth, value, parenthesised, unary, cast, lvalue}
+use Rattle.c_parse.specs.PartGrammar.{SpellsNumber, SpellsTruth, SpellsNamedBase, SpellsPointed, SpellsTarget, SpellsPrefixed, SpellsValue, SpellsOpened, SpellsBehindOpening, cast_of, pointed_of, enclosed_of}
+use Rattle.c_parse.proofs.Shapes.{built, first, either, wider, as_other, apart, among}
+use Rattle.c_parse.proofs.TokenShapes as shapes
+use Rattle.c_parse.proofs.TokenShapes.{Starts, sign_shape, name_shape, literal_shape, truths, unaries, integers, a_name, a_literal, a_truth, a_unary, an_integer, going_on, this_sign, of_kind, sign, full}
+use Rattle.c_parse.proofs.Steps.{Sample, both, Excluded, at_first, at_second, unmake, in_full, by_test, by_full, either_way, and_left, and_right}
+use Rattle.c_parse.proofs.Leaves.{the_sign, the_literal}
+use Rattle.c_parse.proofs.BaseTexts.{named_starts}
+use Rattle.c_parse.proofs.PartTexts.{lvalue_of}
+use Rattle.c_parse.proofs.LevelsClimbed.{tightest}
 
-abbrev pub unary_at : (Place × UnaryOperator) × Expression → Expression
-unary_at p = Unary p.0.0 p.0.1 p.0.0 p.1
-
--- what stands behind a `(`, as what is made of the place of that
-abbrev pub cast_of : (Place × IntegerType) × Expression → Place → Expression
-cast_of p at = Cast at p.0.1 at p.1
-
-abbrev pub pointed_of : Named × List Selector → Place → Expression
-pointed_of p at = Value at (record { base = base.Pointed at p.0; parts = p.1 })
-
-abbrev pub enclosed_of : Expression × Place → Place → Expression
-enclosed_of p at = started_at at p.0
-
-abbrev pub CastForm : Dialect → (Place → Expression) → Tokens → Type 0
-CastForm dialect = Made cast_of (SpellsTarget ⋅ SpellsPrefix dialect)
-
-abbrev pub PointedForm : Dialect → (Place → Expression) → Tokens → Type 0
-PointedForm dialect = InFull dialect (Made pointed_of (SpellsPointed ⋅ SpellsParts dialect))
-
-abbrev pub EnclosedForm : Dialect → (Place → Expression) → Tokens → Type 0
-EnclosedForm dialect = Made enclosed_of (SpellsWhole dialect ⋅ Sign mark.CloseParenthesis)
-
-abbrev pub BehindOpening : Dialect → (Place → Expression) → Tokens → Type 0
-BehindOpening dialect = CastForm dialect ∣ PointedForm dialect ∣ EnclosedForm dialect
-
-abbrev pub at_opening : Place × (Place → Expression) → Expression
-at_opening p = p.1 p.0
-
-abbrev pub OpenedForm : Dialect → Expression → Tokens → Type 0
-OpenedForm dialect = Made at_opening (Sign mark.OpenParenthesis ⋅ BehindOpening dialect)
-
-abbrev pub PrefixedForm : Dialect → Expression → Tokens → Type 0
-PrefixedForm dialect = Made unary_at (One unary_of ⋅ SpellsPrefix dialect)
-
-abbrev pub ValueForm : Dialect → Expression → Tokens → Type 0
-ValueForm dialect = Made value_of (SpellsLvalue dialect)
-
--- the operands of each form
-abbrev pub OfForm : Dialect → Form → Expression → Tokens → Type 0
-OfForm dialect form.Parenthesis = OpenedForm dialect
-OfForm dialect form.Operator = PrefixedForm dialect
-OfForm dialect form.Literal = SpellsNumber
-OfForm dialect form.Truth = SpellsTruth
-OfForm dialect form.Name = ValueForm dialect
-OfForm dialect form.Nothing = λ e w. ⊥
+abbrev pub Literals : Expression → Tokens → Type 0
+Literals = SpellsNumber ∣ SpellsTruth
 
 module _ (dialect : Dialect) where
-  opened-back : (e : Expression) (w : Tokens) → OpenedForm dialect e w → SpellsPrefix dialect e w
-  opened-back e w (p, made_of, (us, vs, split, opening, inl (q, is, (cs, xs, split_rest, (r, class_is, (ks, qs, split_class, class, closing)), operand)))) =
+  abbrev pub Unopened : Expression → Tokens → Type 0
+  Unopened = SpellsPrefixed dialect ∣ Literals
+
+  -- the operands that begin with no name
+  abbrev pub Unnamed : Expression → Tokens → Type 0
+  Unnamed = SpellsOpened dialect ∣ Unopened
+
+  abbrev pub NamedValue : Expression → Tokens → Type 0
+  NamedValue = Made (λ p. value_of (lvalue_of p)) (SpellsNamedBase dialect ⋅ SpellsParts dialect)
+
+  value_form : (e : Expression) (l : Lvalue) (w : Tokens) → e ≡ value_of l → SpellsLvalue dialect l w → (Unnamed ∣ NamedValue) e w
+  value_form e l w is (lvalue f b ps us vs k ts l_is split (inl text) rest) = inr ((b, ps), is ∙ ap value_of l_is, (us, vs, split, inl text, rest))
+  value_form e l w is (lvalue f b ps us vs k ts l_is split (inr (inr text)) rest) = inr ((b, ps), is ∙ ap value_of l_is, (us, vs, split, inr text, rest))
+  value_form e l w is (lvalue f b ps us vs k ts l_is split (inr (inl (whole, (p, b_is, (os, more, split_base, opening, pointer))))) rest) = inl (inl (
+    (p.0, pointed_of (p.1.1.0, ps)),
+    is ∙ ap value_of l_is ∙ ap (λ (c : Base). value_of (record { base = c; parts = ps })) b_is,
+    (
+      os,
+      more ++ vs,
+      split ∙ ap (λ (l : Tokens). l ++ vs) split_base ∙ append_assoc os more vs,
+      opening,
+      inr (inl (whole, ((p.1.1.0, ps), refl, (more, vs, refl, (p.1, refl, pointer), rest)))),
+    ),
+  ))
+
+  pub form : (e : Expression) (w : Tokens) → SpellsPrefix dialect e w → (Unnamed ∣ NamedValue) e w
+  form e w (number f l d ts is one) = inl (inr (inr (inl (l, is, one))))
+  form e w (truth f p d ts is one) = inl (inr (inr (inr (p, is, one))))
+  form e w (value f l d ts is text) = value_form e l w is text
+  form e w (unary f p x os us d ts is split operator operand) = inl (inr (inl ((p, x), is, (os, us, split, operator, operand))))
+  form e w (parenthesised f p q x ps us qs d ts is split opening inner closing) =
+      inl (inl ((p, enclosed_of (x, q)), is, (ps, us ++ qs, split, opening, inr (inr ((x, q), refl, (us, qs, refl, inner, closing))))))
+  form e w (cast f p q c x ps cs qs us d ts is split opening class closing operand) = inl (inl (
+    (p, cast_of (c, x)),
+    is,
+    (ps, cs ++ (qs ++ us), split, opening, inl ((c, x), refl, (cs ++ qs, us, sym (append_assoc cs qs us), ((c, q), refl, (cs, qs, refl, class, closing)), operand))),
+  ))
+
+  back : (e : Expression) (w : Tokens) → (Unnamed ∣ NamedValue) e w → SpellsPrefix dialect e w
+  back e w (inl (inl (p, made_of, (us, vs, split, opening, inl (q, is, (cs, xs, split_rest, (r, class_is, (ks, qs, split_class, class, closing)), operand)))))) =
       cast dialect p.0 r.1 r.0 q.1 us ks qs xs e w
       (made_of ∙ ap (λ (f : Place → Expression). f p.0) is ∙ ap (λ (c : Place × IntegerType). Cast p.0 c.1 p.0 q.1) class_is)
-      (split ∙ ap (λ (l : Tokens). us ++ l) (split_rest ∙ ap (λ (l : Tokens). l ++ xs) split_class ∙ append_assoc ks qs xs))
-      opening class closing operand
-  opened-back e w (p, made_of, (us, vs, split, opening, inr (inl (full_is, (q, is, (ns, ps, split_rest, (r, name_is, pointer), parts)))))) =
+      (split ∙ ap (λ (l : Tokens). us ++ l) (split_rest ∙ ap (λ (l : Tokens). l ++ xs) split_class ∙ append_assoc ks qs xs)) opening class closing operand
+  back e w (inl (inl (p, made_of, (us, vs, split, opening, inr (inl (whole, (q, is, (ns, ps, split_rest, (r, name_is, pointer), parts)))))))) =
       let l : Lvalue = record { base = base.Pointed p.0 r.1.0; parts = q.1 } in
-      value dialect l e w
-      (made_of ∙ ap (λ (f : Place → Expression). f p.0) is ∙ ap (λ (x : Named). pointed_of (x, q.1) p.0) name_is)
-      (lvalue dialect (base.Pointed p.0 r.1.0) q.1 (us ++ ns) ps l w refl
-      (split ∙ ap (λ (l : Tokens). us ++ l) split_rest ∙ sym (append_assoc us ns ps))
-      (inr (inl (full_is, ((p.0, r), refl, (us, ns, refl, opening, pointer))))) parts)
-  opened-back e w (p, made_of, (us, vs, split, opening, inr (inr (q, is, (xs, cs, split_rest, inner, closing))))) =
-      parenthesised dialect p.0 q.1 q.0 us xs cs e w (made_of ∙ ap (λ (f : Place → Expression). f p.0) is)
-      (split ∙ ap (λ (l : Tokens). us ++ l) split_rest) opening inner closing
+      value dialect l e w (made_of ∙ ap (λ (f : Place → Expression). f p.0) is ∙ ap (λ (x : Named). pointed_of (x, q.1) p.0) name_is)
+      (lvalue dialect (base.Pointed p.0 r.1.0) q.1 (us ++ ns) ps l w refl (split ∙ ap (λ (l : Tokens). us ++ l) split_rest ∙ sym (append_assoc us ns ps))
+      (inr (inl (whole, ((p.0, r), refl, (us, ns, refl, opening, pointer))))) parts)
+  back e w (inl (inl (p, made_of, (us, vs, split, opening, inr (inr (q, is, (xs, cs, split_rest, inner, closing))))))) =
+      parenthesised dialect p.0 q.1 q.0 us xs cs e w (made_of ∙ ap (λ (f : Place → Expression). f p.0) is) (split ∙ ap (λ (l : Tokens). us ++ l) split_rest) opening inner closing
+  back e w (inl (inr (inl (p, is, (os, us, split, operator, operand))))) = unary dialect p.0 p.1 os us e w is split operator operand
+  back e w (inl (inr (inr (inl (l, is, one))))) = number dialect l e w is one
+  back e w (inl (inr (inr (inr (p, is, one))))) = truth dialect p e w is one
+  back e w (inr (p, is, (us, vs, split, inl text, rest))) = value dialect (lvalue_of p) e w is (lvalue dialect p.0 p.1 us vs (lvalue_of p) w refl split (inl text) rest)
+  back e w (inr (p, is, (us, vs, split, inr text, rest))) = value dialect (lvalue_of p) e w is (lvalue dialect p.0 p.1 us vs (lvalue_of p) w refl split (inr (inr text)) rest)
 
-  back : (g : Form) (e : Expression) (w : Tokens) → OfForm dialect g e w → SpellsPrefix dialect e w
-  back form.Parenthesis e w text = opened-back e w text
-  back form.Operator e w (p, is, (os, us, split, operator, operand)) = unary dialect p.0 p.1 os us e w is split operator operand
-  back form.Literal e w (l, is, one) = number dialect l e w is one
-  back form.Truth e w (p, is, one) = truth dialect p e w is one
-  back form.Name e w (l, is, text) = value dialect l e w is text
-  back form.Nothing e w text = absurd text
+  opened_starts : Starts (sign_shape mark.OpenParenthesis ∷ []) (SpellsOpened dialect)
+  opened_starts = built _ (first _ (sign mark.OpenParenthesis refl))
 
-  -- a text is one of the form with which it begins
-  of : (g : Form) (e : Expression) (w m : Tokens) → form_ahead (w ++ m) ≡ g → OfForm dialect g e w → OfForm dialect (form_ahead (w ++ m)) e w
-  of g e w m is text = subst (λ (h : Form). OfForm dialect h e w) (sym is) text
+  prefixed_starts : Starts unaries (SpellsPrefixed dialect)
+  prefixed_starts = built _ (first _ (shapes.unary refl))
 
-  value-forth : (e : Expression) (l : Lvalue) (w m : Tokens) → e ≡ value_of l → SpellsLvalue dialect l w → OfForm dialect (form_ahead (w ++ m)) e w
-  value-forth e l w m is (lvalue f b ps us vs k ts l_is split (inl (x, b_is, name)) rest) =
-      of form.Name e w m (behind-form form.Name us vs w m split (name-begins x us (vs ++ m) name))
-      (l, is, lvalue dialect b ps us vs l w l_is split (inl (x, b_is, name)) rest)
-  value-forth e l w m is (lvalue f b ps us vs k ts l_is split (inr (inl (full_is, (p, b_is, (os, more, split_base, opening, pointer))))) rest) =
-      let split_all = split ∙ ap (λ (l : Tokens). l ++ vs) split_base ∙ append_assoc os more vs in
-      of form.Parenthesis e w m (behind-form form.Parenthesis os (more ++ vs) w m split_all (sign-begins mark.OpenParenthesis p.0 os ((more ++ vs) ++ m) opening)) (
-        (p.0, pointed_of (p.1.1.0, ps)),
-        is ∙ ap value_of l_is ∙ ap (λ (c : Base). value_of (record { base = c; parts = ps })) b_is,
-        (os, more ++ vs, split_all, opening, inr (inl (full_is, ((p.1.1.0, ps), refl, (more, vs, refl, (p.1, refl, pointer), rest))))),
-      )
-  value-forth e l w m is (lvalue f b ps us vs k ts l_is split (inr (inr (full_is, (p, b_is, (ns, more, split_base, name, arrow))))) rest) =
-      of form.Name e w m
-      (behind-form form.Name ns (more ++ vs) w m (split ∙ ap (λ (l : Tokens). l ++ vs) split_base ∙ append_assoc ns more vs) (name-begins p.0 ns ((more ++ vs) ++ m) name))
-      (l, is, lvalue dialect b ps us vs l w l_is split (inr (inr (full_is, (p, b_is, (ns, more, split_base, name, arrow))))) rest)
+  abbrev pub literal_shapes : List (List ℕ)
+  literal_shapes = literal_shape ∷ truths
 
-  forth : (e : Expression) (w m : Tokens) → SpellsPrefix dialect e w → OfForm dialect (form_ahead (w ++ m)) e w
-  forth e w m (number f l d ts is one) = of form.Literal e w m (literal-begins l w m one) (l, is, one)
-  forth e w m (truth f p d ts is one) = of form.Truth e w m (truth-begins p w m one) (p, is, one)
-  forth e w m (value f l d ts is text) = value-forth e l w m is text
-  forth e w m (parenthesised f p q x ps us qs d ts is split opening inner closing) =
-      of form.Parenthesis e w m (behind-form form.Parenthesis ps (us ++ qs) w m split (sign-begins mark.OpenParenthesis p ps ((us ++ qs) ++ m) opening))
-      ((p, enclosed_of (x, q)), is, (ps, us ++ qs, split, opening, inr (inr ((x, q), refl, (us, qs, refl, inner, closing)))))
-  forth e w m (unary f p x os us d ts is split operator operand) =
-      of form.Operator e w m (behind-form form.Operator os us w m split (unary-begins p os (us ++ m) operator))
-      ((p, x), is, (os, us, split, operator, operand))
-  forth e w m (cast f p q c x ps cs qs us d ts is split opening class closing operand) =
-      of form.Parenthesis e w m (behind-form form.Parenthesis ps (cs ++ (qs ++ us)) w m split (sign-begins mark.OpenParenthesis p ps ((cs ++ (qs ++ us)) ++ m) opening)) (
-        (p, cast_of (c, x)),
-        is,
-        (
-          ps,
-          cs ++ (qs ++ us),
-          split,
-          opening,
-          inl ((c, x), refl, (cs ++ qs, us, sym (append_assoc cs qs us), ((c, q), refl, (cs, qs, refl, class, closing)), operand)),
-        ),
-      )
+  literals_start : Starts literal_shapes Literals
+  literals_start = either (built _ (shapes.literal refl)) (built _ (shapes.truth refl))
 
-  -- with what no operand begins, no expression does
-  pub some-form : (n : ℕ) (e : Expression) (w m : Tokens) → SpellsExpression dialect n e w → form_ahead (w ++ m) ≡ form.Nothing → ⊥
-  some-form n e w m (chain f k x os us vs d ts low is split first rest) nothing =
-      some-form (n + 1) x us (vs ++ m) first
-      (ap form_ahead (sym (append_assoc us vs m)) ∙ ap (λ (l : Tokens). form_ahead (l ++ m)) (sym split) ∙ nothing)
-  some-form n e w m (prefix f k d ts tight text) nothing = subst (λ (g : Form). OfForm dialect g e w) nothing (forth e w m text)
+  unopened_starts : Starts (literal_shapes ++ unaries) Unopened
+  unopened_starts = either (wider prefixed_starts refl) (wider literals_start refl)
+
+  abbrev pub unnamed_shapes : List (List ℕ)
+  unnamed_shapes = sign_shape mark.OpenParenthesis ∷ literal_shapes ++ unaries
+
+  pub unnamed_starts : Starts unnamed_shapes Unnamed
+  unnamed_starts = either (wider opened_starts refl) (wider unopened_starts refl)
+
+  named_start : Starts (name_shape ∷ []) NamedValue
+  named_start = built _ (first _ (named_starts dialect))
+
+  abbrev pub expression_shapes : List (List ℕ)
+  expression_shapes = name_shape ∷ unnamed_shapes
+
+  operand_starts : Starts expression_shapes (SpellsPrefix dialect)
+  operand_starts = as_other form (either (wider unnamed_starts refl) (wider named_start refl))
+
+  expression-begins : (n : ℕ) (e : Expression) (w m : Tokens) → SpellsExpression dialect n e w → begins (λ t. shapes.starts_so expression_shapes t) (w ++ m) ≡ true
+  expression-begins n e w m (chain f k x os us vs d ts low is split one rest) =
+      ap (λ (l : Tokens). begins (λ t. shapes.starts_so expression_shapes t) (l ++ m)) split
+      ∙ ap (begins (λ t. shapes.starts_so expression_shapes t)) (append_assoc us vs m) ∙ expression-begins (n + 1) x us (vs ++ m) one
+  expression-begins n e w m (prefix f k d ts tight text) = operand_starts.begins e w m text
+
+  pub expression_starts : (n : ℕ) → Starts expression_shapes (SpellsExpression dialect n)
+  expression_starts n = record { begins = λ e w m text. expression-begins n e w m text }
+
+  pub an_operand : Sample (SpellsPrefix dialect)
+  an_operand = (Number the_literal.0.place the_literal.0, the_literal.1, number dialect the_literal.0 (Number the_literal.0.place the_literal.0) the_literal.1 refl the_literal.2)
 
   module _ (before : Tokens) where
     abbrev Operand : Expression → Tokens → Type 0
     Operand = SpellsPrefix dialect
 
-    pub form-there : (g : Form) → form_ahead before ≡ g → Leaves Operand (Ends prefix_level) before before (λ e. e) (OfForm dialect g)
-    form-there g there = refined Operand (Ends prefix_level) before before (λ e. e) Operand (λ e. e) (OfForm dialect g) (whole Operand (Ends prefix_level) before) (back g)
-        (λ e w m text follows same. (e, refl, subst (λ (h : Form). OfForm dialect h e w) (first-form (w ++ m) before same ∙ there) (forth e w m text)))
+    abbrev F : Tokens → Type 0
+    F = Ends prefix_level
 
-    -- what begins with a name, or with nothing that begins an operand
-    pub value-there : (g : Form) → (g ≡ form.Parenthesis → ⊥) → (g ≡ form.Operator → ⊥) → (g ≡ form.Literal → ⊥) → (g ≡ form.Truth → ⊥) → form_ahead before ≡ g → Leaves Operand (Ends prefix_level) before before value_of (SpellsLvalue dialect)
-    value-there form.Parenthesis none no_operator no_literal no_truth there = absurd (none refl)
-    value-there form.Operator none no_operator no_literal no_truth there = absurd (no_operator refl)
-    value-there form.Literal none no_operator no_literal no_truth there = absurd (no_literal refl)
-    value-there form.Truth none no_operator no_literal no_truth there = absurd (no_truth refl)
-    value-there form.Name none no_operator no_literal no_truth there =
-        refined Operand (Ends prefix_level) before before (λ e. e) (ValueForm dialect) value_of (SpellsLvalue dialect) (form-there form.Name there)
-        (λ l w text. (l, refl, text)) (λ e w m text follows same. text)
-    value-there form.Nothing none no_operator no_literal no_truth there =
-        refined Operand (Ends prefix_level) before before (λ e. e) Operand value_of (SpellsLvalue dialect) (whole Operand (Ends prefix_level) before)
-        (λ l w text. value dialect l (value_of l) w refl text)
-        (λ e w m text follows same. absurd (subst (λ (h : Form). OfForm dialect h e w) (first-form (w ++ m) before same ∙ there) (forth e w m text)))
+    operand_left : Leaves Operand F before before (λ e. e) (Unnamed ∣ NamedValue)
+    operand_left = begun Operand F before (λ e. e) (Unnamed ∣ NamedValue) (λ e w text. (e, refl, form e w text)) back
 
-    module _ (there : form_ahead before ≡ form.Operator) where
-      operator_ahead : Leaves Operand (Ends prefix_level) before before unary_at (One unary_of ⋅ Operand)
-      operator_ahead = unmade Operand (Ends prefix_level) before before (λ e. e) unary_at (One unary_of ⋅ Operand) (form-there form.Operator there)
+    pub opened_there : begins (is_mark mark.OpenParenthesis) before ≡ true → Leaves Operand F before before (λ e. e) (SpellsOpened dialect)
+    opened_there there = at_first (at_first operand_left (by_test (apart (this_sign mark.OpenParenthesis) named_start refl) there)) (by_test (apart (this_sign mark.OpenParenthesis) unopened_starts refl) there)
 
-      pub operator-stuck : (at : Tokens) → Stuck (One unary_of) Anything before at → Stuck Operand (Ends prefix_level) before at
-      operator-stuck = two.first-stuck Operand (Ends prefix_level) before before unary_at (One unary_of) Operand Anything (Ends prefix_level) operator_ahead (free Operand (Ends prefix_level)) (λ m follows. follows) (operand-text dialect)
+    pub prefixed_there : begins is_unary before ≡ true → Leaves Operand F before before (λ e. e) (SpellsPrefixed dialect)
+    prefixed_there there =
+        at_first (at_second (at_first operand_left (by_test (apart a_unary named_start refl) there)) (by_test (apart a_unary opened_starts refl) there))
+        (by_test (apart a_unary literals_start refl) there)
 
-      module _ (at : Tokens) (p : Place × UnaryOperator) (one : Reached (One unary_of) Anything before at p) (after : Tokens) where
-        pub operand-stuck : Stuck Operand (Ends prefix_level) at after → Stuck Operand (Ends prefix_level) before after
-        operand-stuck = two.second-stuck Operand (Ends prefix_level) before before unary_at (One unary_of) Operand Anything (Ends prefix_level) operator_ahead (free Operand (Ends prefix_level)) (λ m follows. follows) (operand-text dialect) at p one after
+    pub number_there : begins is_literal before ≡ true → Leaves Operand F before before (λ e. e) SpellsNumber
+    number_there there =
+        at_first
+        (at_second (at_second (at_first operand_left (by_test (apart a_literal named_start refl) there)) (by_test (apart a_literal opened_starts refl) there)) (by_test (apart a_literal prefixed_starts refl) there))
+        (by_test (apart a_literal (built _ (of_kind a_truth)) refl) there)
 
-        pub prefixed-read : (x : Expression) → Reached Operand (Ends prefix_level) at after x → Reached Operand (Ends prefix_level) before after (Unary p.0 p.1 p.0 x)
-        prefixed-read = two.both-read Operand (Ends prefix_level) before before unary_at (One unary_of) Operand Anything (Ends prefix_level) operator_ahead (free Operand (Ends prefix_level)) (λ m follows. follows) (operand-text dialect) at p one after
+    pub truth_there : begins is_truth before ≡ true → Leaves Operand F before before (λ e. e) SpellsTruth
+    truth_there there =
+        at_second
+        (at_second (at_second (at_first operand_left (by_test (apart a_truth named_start refl) there)) (by_test (apart a_truth opened_starts refl) there)) (by_test (apart a_truth prefixed_starts refl) there))
+        (by_test (apart a_truth (built _ (of_kind a_literal)) refl) there)
+
+    value_left : Excluded F before Unnamed → Leaves Operand F before before (λ e. e) (SpellsValue dialect)
+    value_left others = refined Operand F before before (λ e. e) (Unnamed ∣ NamedValue) (λ e. e) (SpellsValue dialect) operand_left
+        (λ e v text. form e v (value dialect text.0 e v text.1 text.2))
+        (λ e v m text follows same. elim text [ inl other ↦ absurd (others.none e v m other follows same) | inr named ↦ (e, refl, (lvalue_of named.0, named.1, named_lvalue named.0 v named.2)) ])
+      where
+        named_lvalue : (p : Base × List Selector) (v : Tokens) → (SpellsNamedBase dialect ⋅ SpellsParts dialect) p v → SpellsLvalue dialect (lvalue_of p) v
+        named_lvalue p v (us, vs, split, inl text, rest) = lvalue dialect p.0 p.1 us vs (lvalue_of p) v refl split (inl text) rest
+        named_lvalue p v (us, vs, split, inr text, rest) = lvalue dialect p.0 p.1 us vs (lvalue_of p) v refl split (inr (inr text)) rest
+
+    pub named_there : begins is_name before ≡ true → Leaves Operand F before before (λ e. e) (SpellsValue dialect)
+    named_there there = value_left (by_test (apart a_name unnamed_starts refl) there)
+
+    pub value_there : begins (is_mark mark.OpenParenthesis) before ≡ false → begins is_unary before ≡ false → begins is_literal before ≡ false → begins is_truth before ≡ false → Leaves Operand F before before (λ e. e) (SpellsValue dialect)
+    value_there no_opening no_operator no_literal no_truth =
+        value_left (either_way (by_test (among (this_sign mark.OpenParenthesis) opened_starts refl) no_opening) (either_way (by_test (among a_unary prefixed_starts refl) no_operator)
+        (either_way (by_test (among a_literal (built _ (of_kind a_literal)) refl) no_literal) (by_test (among a_truth (built _ (of_kind a_truth)) refl) no_truth))))
+
+pub bracket-ends : (F : Tokens → Type 0) (p : Place) (w m : Tokens) → Sign mark.CloseBracket p w → F m → Ends loosest_level (w ++ m)
+bracket-ends F p w m text follows = apart going_on (of_kind (this_sign mark.CloseBracket)) refl p w m text
+
+pub close-ends : (F : Tokens → Type 0) (p : Place) (w m : Tokens) → Sign mark.CloseParenthesis p w → F m → Ends loosest_level (w ++ m)
+close-ends F p w m text follows = apart going_on (of_kind (this_sign mark.CloseParenthesis)) refl p w m text
+
+-- what stands behind a `(`
+module _ (dialect : Dialect) where
+  cast_starts : Starts integers (Made cast_of (SpellsTarget ⋅ SpellsPrefix dialect))
+  cast_starts = built _ (first _ (built _ (first _ (shapes.integer_type refl))))
+
+  pointed_starts : Starts (sign_shape mark.Star ∷ []) (Made pointed_of (SpellsPointed ⋅ SpellsParts dialect))
+  pointed_starts = built _ (first _ (built _ (first _ (sign mark.Star refl))))
+
+  enclosed_starts : Starts (expression_shapes dialect) (Made enclosed_of (SpellsWhole dialect ⋅ Sign mark.CloseParenthesis))
+  enclosed_starts = built _ (first _ (expression_starts dialect loosest_level))
+
+  pub a_whole : Sample (SpellsWhole dialect)
+  a_whole = let e = an_operand dialect in (e.0, e.1, tightest dialect e.0 e.1 10 1 refl e.2)
+
+  pub an_enclosed : Sample (SpellsBehindOpening dialect)
+  an_enclosed =
+      let e = both a_whole (the_sign mark.CloseParenthesis) in
+      (enclosed_of e.0, e.1, inr (inr (e.0, refl, e.2)))
+
+  module _ {before at : Tokens} {build : (Place → Expression) → Expression} (so : Leaves (SpellsOpened dialect) (Ends prefix_level) before at build (SpellsBehindOpening dialect)) where
+    pub cast_there : begins is_integer at ≡ true → Leaves (SpellsOpened dialect) (Ends prefix_level) before at (λ p. build (cast_of p)) (SpellsTarget ⋅ SpellsPrefix dialect)
+    cast_there there = unmake (at_first so (either_way (by_test (apart an_integer (full dialect pointed_starts) refl) there) (by_test (apart an_integer enclosed_starts refl) there)))
+
+    pub pointed_there : (is_full dialect && begins (is_mark mark.Star) at) ≡ true → Leaves (SpellsOpened dialect) (Ends prefix_level) before at (λ p. build (pointed_of p)) (SpellsPointed ⋅ SpellsParts dialect)
+    pointed_there there =
+        let star = and_right (is_full dialect) (begins (is_mark mark.Star) at) there in
+        unmake (in_full dialect (at_first (at_second so (by_test (apart (this_sign mark.Star) cast_starts refl) star)) (by_test (apart (this_sign mark.Star) enclosed_starts refl) star)) (and_left (is_full dialect) (begins (is_mark mark.Star) at) there))
+
+    pub enclosed_there : begins is_integer at ≡ false → (is_full dialect && begins (is_mark mark.Star) at) ≡ false → Leaves (SpellsOpened dialect) (Ends prefix_level) before at (λ p. build (enclosed_of p)) (SpellsWhole dialect ⋅ Sign mark.CloseParenthesis)
+    enclosed_there none no_pointer =
+        unmake (at_second (at_second so (by_test (among an_integer cast_starts refl) none)) (by_full dialect (among (this_sign mark.Star) pointed_starts refl) no_pointer))

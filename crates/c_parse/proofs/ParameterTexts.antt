@@ -1,16 +1,14 @@
 -- Parameters, by the tokens that stand ahead.
 use Rattle.std.proofs.Common.{◌≡◌, refl, ap, Bool, true, false, [], inl, inr}
 use Rattle.std.specs.Prelude.{◌&&◌}
-use Rattle.hw_text.specs.declared.placed.Placed.{Placed}
 use Rattle.hw_text.specs.Language.{◌⋅◌, ◌∣◌, Made, Each}
-use Rattle.hw_text.specs.Reading.{begins, Begins, BeginsWithout, Anything, Reached, Leaves}
-use Rattle.hw_text.proofs.Reading.{begun, made-begins, then-begins}
+use Rattle.hw_text.specs.Reading.{begins, BeginsWithout, Anything, Reached, Leaves}
+use Rattle.hw_text.proofs.Reading.{begun}
 use Rattle.c_tree.specs.declared.dialect.Dialect.{Dialect}
 use Rattle.c_tree.specs.Dialects.{is_full}
 use Rattle.c_tree.specs.declared.type_name.TypeName.{TypeName}
 use Rattle.c_tree.specs.declared.named.Named.{Named}
 use Rattle.c_tree.specs.declared.item.Parameter.{Parameter}
-use Rattle.c_parse.specs.declared.token.Token.{Token}
 use Rattle.c_parse.specs.declared.keyword.Keyword.TheVariants as keyword
 use Rattle.c_parse.specs.declared.mark.Mark.TheVariants as mark
 use Rattle.c_parse.specs.Values.{Tokens, is_mark, is_word}
@@ -18,9 +16,12 @@ use Rattle.c_parse.specs.ExpressionGrammar.{Sign, Name, InFull}
 use Rattle.c_parse.specs.CallGrammar.{Word, SpellsType, BehindComma}
 use Rattle.c_parse.specs.UnitGrammar.{SpellsParameter, SpellsParameters, parameter_of, parameters_of}
 use Rattle.c_parse.proofs.Steps.{Sample, both, all_left, at_first, at_second, in_full, unmake, by_test, by_full, and_left, and_right, passed}
-use Rattle.c_parse.proofs.Leaves.{the_name, word_begins, name_begins, integer_begins, this_sign, this_word}
 use Rattle.c_parse.proofs.Lists.{Listed}
-use Rattle.c_parse.proofs.TypedefTexts.{a_type, type_begins, separated}
+use Rattle.c_parse.proofs.TypedefTexts.{a_type, separated}
+use Rattle.c_parse.proofs.Leaves.{the_name}
+use Rattle.c_parse.proofs.Shapes.{built, first, either, apart, among}
+use Rattle.c_parse.proofs.TokenShapes.{Starts, a_name, this_sign, this_word, of_kind, full}
+use Rattle.c_parse.proofs.TypeTexts.{type_shapes, type_starts}
 
 -- whether a `*` stands before the name
 abbrev Rest : Dialect → Bool × Named → Tokens → Type 0
@@ -59,34 +60,25 @@ module _ (dialect : Dialect) (before : Tokens) where
 module _ (dialect : Dialect) {before at : Tokens} {build : Bool × Named → Parameter} (so : Leaves (SpellsParameter dialect) Anything before at build (Rest dialect)) where
   pub star_there : (is_full dialect && begins (is_mark mark.Star) at) ≡ true → Leaves (SpellsParameter dialect) Anything before at (λ p. build (true, p.1)) (Sign mark.Star ⋅ Name)
   star_there there = unmake (in_full dialect (at_second so
-      (by_test (made-begins (is_mark mark.Star) false Name (λ n. (false, n)) (name_begins (is_mark mark.Star) false (λ n p. refl))) (and_right (is_full dialect) (begins (is_mark mark.Star) at) there)))
+      (by_test (apart (this_sign mark.Star) (built _ (of_kind a_name)) refl) (and_right (is_full dialect) (begins (is_mark mark.Star) at) there)))
       (and_left (is_full dialect) (begins (is_mark mark.Star) at) there))
 
   pub no_star : (is_full dialect && begins (is_mark mark.Star) at) ≡ false → Leaves (SpellsParameter dialect) Anything before at (λ n. build (false, n)) Name
   no_star none_there = unmake (at_first so
-      (by_full dialect (made-begins (is_mark mark.Star) true (Sign mark.Star ⋅ Name) (λ p. (true, p.1)) (then-begins (is_mark mark.Star) true (Sign mark.Star) Name (this_sign mark.Star))) none_there))
+      (by_full dialect (among (this_sign mark.Star) (built _ (first _ (of_kind (this_sign mark.Star)))) refl) none_there))
 
 pub more_listed : (dialect : Dialect) → Listed (BehindComma (SpellsParameter dialect)) (is_mark mark.Comma) true Anything (BeginsWithout (is_mark mark.Comma))
 more_listed dialect = separated (SpellsParameter dialect) Anything (λ m follows. tt) (λ x w m text. tt)
 
-parameter-begins : (test : Placed Token → Bool) (so : Bool) (dialect : Dialect) → Begins test so SpellsType → Begins test so (SpellsParameter dialect)
-parameter-begins test so dialect is x w m text =
-    let made = opened dialect x w text in
-    then-begins test so SpellsType (Rest dialect) is made.0 w m made.2
+parameter_starts : (dialect : Dialect) → Starts type_shapes (SpellsParameter dialect)
+parameter_starts dialect = either (built _ (first _ type_starts)) (full dialect (built _ (first _ type_starts)))
 
 module _ (dialect : Dialect) (before : Tokens) where
   abbrev Ends : Tokens → Type 0
   Ends = BeginsWithout (is_mark mark.Comma)
 
   pub void_there : begins (is_word keyword.Void) before ≡ true → Leaves (SpellsParameters dialect) Ends before before (λ p. []) (Word keyword.Void)
-  void_there there = unmake (at_first (all_left (SpellsParameters dialect) Ends before)
-      (by_test (made-begins (is_word keyword.Void) false (SpellsParameter dialect ⋅ Each (BehindComma (SpellsParameter dialect))) parameters_of
-      (then-begins (is_word keyword.Void) false (SpellsParameter dialect) (Each (BehindComma (SpellsParameter dialect)))
-      (parameter-begins (is_word keyword.Void) false dialect
-      (type_begins (is_word keyword.Void) false
-      (integer_begins (is_word keyword.Void) false (λ p. refl) (λ p. refl) (λ p. refl) (λ p. refl) (λ p. refl) (λ p. refl) (λ p. refl) (λ p. refl))
-      (word_begins (is_word keyword.Void) false keyword.Bool (λ p. refl)) (name_begins (is_word keyword.Void) false (λ n p. refl)))))) there))
+  void_there there = unmake (at_first (all_left (SpellsParameters dialect) Ends before) (by_test (apart (this_word keyword.Void) (built _ (first _ (parameter_starts dialect))) refl) there))
 
   pub some_there : begins (is_word keyword.Void) before ≡ false → Leaves (SpellsParameters dialect) Ends before before parameters_of (SpellsParameter dialect ⋅ Each (BehindComma (SpellsParameter dialect)))
-  some_there none_there = unmake (at_second (all_left (SpellsParameters dialect) Ends before)
-      (by_test (made-begins (is_word keyword.Void) true (Word keyword.Void) (λ p. []) (this_word keyword.Void)) none_there))
+  some_there none_there = unmake (at_second (all_left (SpellsParameters dialect) Ends before) (by_test (among (this_word keyword.Void) (built _ (of_kind (this_word keyword.Void))) refl) none_there))

@@ -1,5 +1,5 @@
 -- Statements without blocks, by the tokens that stand ahead.
-use Rattle.std.proofs.Common.{◌≡◌, ◌∙◌, refl, ap, Bool, true, false, [], ◌∷◌, ◌++◌, drop, append_assoc, Some, None, inl, inr}
+use Rattle.std.proofs.Common.{◌≡◌, ◌∙◌, refl, ap, ℕ, List, Bool, true, [], ◌∷◌, ◌++◌, drop, append_assoc, Some, None, inl, inr}
 use Rattle.std.specs.Prelude.{is_some}
 use Rattle.std.proofs.lemmas.Bool.{false≢true}
 use Rattle.std.proofs.lemmas.Option.{same_Some}
@@ -9,7 +9,6 @@ use Rattle.hw_text.specs.declared.place.Place.{Place}
 use Rattle.hw_text.specs.declared.placed.Placed.{Placed}
 use Rattle.hw_text.specs.Language.{◌⋅◌}
 use Rattle.hw_text.specs.Reading.{begins, Begins, Anything, BeginsWithout, Reached, Stuck}
-use Rattle.hw_text.proofs.Reading.{made-begins, then-begins, one-reached}
 use Rattle.c_tree.specs.declared.expression.RightSide.{RightSide}
 use Rattle.c_tree.specs.declared.named.Named.{Named}
 use Rattle.c_tree.specs.declared.statement.Statement.{Statement}
@@ -21,35 +20,39 @@ use Rattle.c_parse.specs.declared.keyword.Keyword.TheVariants as keyword
 use Rattle.c_parse.specs.declared.mark.Mark.TheVariants as mark
 use Rattle.c_parse.specs.Values.{Tokens, is_name, name_of, name_token}
 use Rattle.c_parse.specs.Operators.{is_selector}
-use Rattle.c_parse.specs.ExpressionGrammar.{Sign, Name, InFull, SpellsLvalue}
-use Rattle.c_parse.specs.CallGrammar.{Word, SpellsType, SpellsRightSide, SpellsCall, Separated, SpellsArgument}
-use Rattle.c_parse.specs.PlainGrammar.{SpellsLocal, SpellsLocalValue, SpellsAssignment, SpellsCallAlone, SpellsBreak}
-use Rattle.c_parse.proofs.TypeTexts.{defined-read}
-use Rattle.c_parse.proofs.RightTexts.{lvalue_begins}
-use Rattle.c_parse.proofs.Leaves.{put, sign_begins}
+use Rattle.c_parse.specs.ExpressionGrammar.{Sign, Name}
+use Rattle.c_parse.specs.CallGrammar.{SpellsType, SpellsRightSide, Separated, SpellsArgument}
+use Rattle.c_parse.specs.PlainGrammar.{SpellsPlain, SpellsLocal, SpellsLocalValue, SpellsAssignment, SpellsCallAlone, SpellsBreak}
+use Rattle.c_parse.proofs.Leaves.{put}
+use Rattle.hw_text.proofs.Reading.{then-begins}
+use Rattle.c_parse.proofs.Shapes.{built, first, either, wider, apart}
+use Rattle.c_parse.proofs.TokenShapes.{Starts, sign_shape, word_shape, name_shape, a_selector, this_sign, of_kind, word, full}
+use Rattle.c_parse.proofs.TypeTexts.{type_shapes, type_starts, defined_there}
+use Rattle.c_parse.proofs.PartTexts.{lvalue_shapes, lvalue_starts}
+use Rattle.c_parse.proofs.CallTexts.{call_starts, name_read}
+use Rattle.c_parse.proofs.Steps.{done}
 
 pub lvalue-assign : {dialect : Dialect} (y : Place × (RightSide × Place)) (w m : Tokens) → (Sign mark.Assign ⋅ SpellsRightSide dialect ⋅ Sign mark.Semicolon) y w → Anything m → BeginsWithout is_selector (w ++ m)
-lvalue-assign {dialect = dialect} y w m text follows = then-begins is_selector false (Sign mark.Assign) (SpellsRightSide dialect ⋅ Sign mark.Semicolon) (sign_begins is_selector false mark.Assign (λ p. refl)) y w m text
+lvalue-assign {dialect = dialect} y w m text follows = apart a_selector (first (SpellsRightSide dialect ⋅ Sign mark.Semicolon) (of_kind (this_sign mark.Assign))) refl y w m text
 
-module _ (test : Placed Token → Bool) (so : Bool) where
-  pub local-begins : (dialect : Dialect) → Begins test so SpellsType → Begins test so (SpellsLocal dialect)
-  local-begins dialect is = made-begins test so _ _ (then-begins test so SpellsType (Name ⋅ SpellsLocalValue dialect ⋅ Sign mark.Semicolon) is)
+module _ (dialect : Dialect) where
+  pub local_starts : Starts type_shapes (SpellsLocal dialect)
+  local_starts = built _ (first _ type_starts)
 
-  pub assignment-begins : (dialect : Dialect) → Begins test so Name → Begins test so (Sign mark.OpenParenthesis) → Begins test so (SpellsAssignment dialect)
-  assignment-begins dialect name opening = made-begins test so _ _
-      (then-begins test so (SpellsLvalue dialect) (Sign mark.Assign ⋅ SpellsRightSide dialect ⋅ Sign mark.Semicolon) (lvalue_begins test so dialect name opening))
+  pub assignment_starts : Starts lvalue_shapes (SpellsAssignment dialect)
+  assignment_starts = built _ (first _ (lvalue_starts dialect))
 
-  pub call-begins : (dialect : Dialect) → Begins test so Name → Begins test so (SpellsCall dialect)
-  call-begins dialect name = made-begins test so _ _ (then-begins test so Name _ name)
+  pub alone_starts : Starts (name_shape ∷ []) (SpellsCallAlone dialect)
+  alone_starts = built _ (first _ (call_starts dialect))
 
-  pub alone-begins : (dialect : Dialect) → Begins test so Name → Begins test so (SpellsCallAlone dialect)
-  alone-begins dialect name = made-begins test so _ _ (then-begins test so (SpellsCall dialect) (Sign mark.Semicolon) (call-begins dialect name))
+  pub break_starts : Starts (word_shape keyword.Break ∷ []) SpellsBreak
+  break_starts = built _ (first _ (word keyword.Break refl))
 
-  pub break-begins : Begins test so (Word keyword.Break) → Begins test so SpellsBreak
-  break-begins is = made-begins test so _ _ (then-begins test so (Word keyword.Break) (Sign mark.Semicolon) is)
+  abbrev pub plain_shapes : List (List ℕ)
+  plain_shapes = word_shape keyword.Break ∷ sign_shape mark.OpenParenthesis ∷ type_shapes
 
-  pub full-begins : (dialect : Dialect) → Begins test so (Word keyword.Break) → Begins test so (InFull dialect SpellsBreak)
-  full-begins dialect is y w m text = break-begins is y w m text.1
+  pub plain_starts : Starts plain_shapes (SpellsPlain dialect)
+  plain_starts = either (wider local_starts refl) (either (wider assignment_starts refl) (either (wider alone_starts refl) (full dialect (wider break_starts refl))))
 
 -- a name that was read stands there
 pub name_before : {before at : Tokens} {x : Named} → Reached Name Anything before at x → before ≡ name_token x ∷ at
@@ -75,9 +78,8 @@ name_never_stuck {before = before} {at = at} there so = at_list before there so.
         at_name None is some = false≢true some
         at_name (Some x) is some = so.none x (t ∷ []) l at (t, refl, is) tt split refl
 
-module _ (x : Named) (at : Tokens) where
-  pub class_named : Reached SpellsType Anything (name_token x ∷ at) at (class.Defined x)
-  class_named = defined-read (name_token x ∷ at) at refl refl x (one-reached name_of Anything (name_token x ∷ at) at (name_token x) x refl refl refl)
+pub class_named : (x : Named) (at : Tokens) → Reached SpellsType Anything (name_token x ∷ at) at (class.Defined x)
+class_named x at = done (defined_there (name_token x ∷ at) refl refl) (name_read x at)
 
 pub drop-one : (w us vs m : Tokens) (t : Placed Token) → w ≡ us ++ vs → us ≡ t ∷ [] → drop 1 (w ++ m) ≡ vs ++ m
 drop-one w us vs m t split one = ap (λ (l : Tokens). drop 1 (l ++ m)) (split ∙ ap (λ (l : Tokens). l ++ vs) one)

@@ -2,7 +2,7 @@
 use Rattle.std.proofs.Common.{◌≡◌, ◌==◌, ℕ, Bool, true, false, List, [], ◌∷◌, ◌++◌, codes, refl, sym, subst, arith}
 use Rattle.std.proofs.lemmas.Bool.Decides.{nat_tests}
 use Rattle.hw_text.specs.Name.{is_digit}
-use Rattle.c_tree.specs.Words.{begins_name}
+use Rattle.c_tree.specs.Names.{begins_name}
 use Rattle.c_tree.specs.declared.identifier.Identifier.{Identifier}
 use Rattle.c_tree.specs.declared.numeral.Numeral.{Numeral}
 use Rattle.c_tree.specs.Types.{integer_text}

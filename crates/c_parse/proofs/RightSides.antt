@@ -1,10 +1,12 @@
--- What has been read of what stands on the right: a call, or an expression.
-use Rattle.std.proofs.Common.{◌≡◌, ◌∙◌, refl, sym, ap, subst, [], ◌∷◌, ◌++◌, length, ◌<◌, arith, ◌||◌, Bool, true, false, ◌⊎◌, Option, Some, None, inl, inr}
+-- Which of what stands on the right is ahead: a call, where a name and a `(` stand there, or else an expression.
+use Rattle.std.proofs.Common.{◌≡◌, ◌∙◌, refl, sym, ap, subst, [], ◌∷◌, ◌++◌, drop, ◌&&◌, true, false, Option, Some, None, inl, inr}
 use Rattle.std.specs.Prelude.{is_some, IfNone}
 use Rattle.std.proofs.lemmas.Bool.{false≢true}
+use Rattle.std.proofs.lemmas.Option.{same_Some}
 use Rattle.hw_text.specs.Language.{Made}
-use Rattle.hw_text.specs.Reading.{begins, Anything, Reached, Stuck}
-use Rattle.hw_text.proofs.Reading.{last, last-stuck}
+use Rattle.hw_text.specs.Reading.{first, begins, Anything, Reached, Stuck, Leaves}
+use Rattle.hw_text.proofs.Reading.{first-begins}
+use Rattle.hw_text.specs.declared.placed.Placed.{Placed}
 use Rattle.c_tree.specs.declared.dialect.Dialect.{Dialect}
 use Rattle.c_tree.specs.declared.named.Named.{Named}
 use Rattle.c_tree.specs.declared.expression.Call.{Call}
@@ -14,122 +16,96 @@ use Rattle.c_tree.specs.declared.expression.Base.TheVariants as base
 use Rattle.c_tree.specs.declared.expression.Lvalue.{Lvalue}
 use Rattle.c_tree.specs.declared.expression.RightSide.{RightSide}
 use Rattle.c_tree.specs.declared.expression.RightSide.TheVariants as right
-use Rattle.hw_text.specs.declared.placed.Placed.{Placed}
+use Rattle.c_parse.specs.declared.mark.Mark.TheVariants as mark
 use Rattle.c_parse.specs.declared.token.Token.{Token}
-use Rattle.c_parse.specs.Values.{Tokens, name_of, is_name}
+use Rattle.c_parse.specs.Values.{Tokens, is_name, name_token}
 use Rattle.c_parse.specs.Levels.{loosest_level}
-use Rattle.c_parse.specs.Operators.{goes_on, Ends, RightEnds}
-use Rattle.c_parse.specs.ExpressionGrammar.{SpellsWhole, value, lvalue, no_part}
+use Rattle.c_parse.specs.Operators.{Ends, RightEnds}
+use Rattle.c_parse.specs.ExpressionGrammar.{SpellsWhole, value}
 use Rattle.c_parse.specs.CallGrammar.{SpellsCall, SpellsRightSide, call_of}
 use Rattle.c_parse.specs.PartGrammar.{from_name}
-use Rattle.c_parse.proofs.FormTokens.{some-of}
-use Rattle.c_parse.proofs.Pieces.{made}
-use Rattle.c_parse.proofs.Samples.{single}
-use Rattle.c_parse.proofs.TwoTokens.{chosen-read, chosen-stuck}
-use Rattle.c_parse.proofs.CallBegins.{is_opening, begins_call, first-not, expression-no-call, call-begins}
-use Rattle.c_parse.proofs.CallTexts.{no_arguments}
-use Rattle.c_parse.proofs.LevelTexts.{expression-some}
+use Rattle.c_parse.proofs.Shapes.{built, among, fewer}
+use Rattle.c_parse.proofs.TokenShapes.{a_name, this_sign, going_on, right_going_on}
+use Rattle.c_parse.proofs.LevelsClimbed.{tightest}
+use Rattle.c_parse.proofs.Steps.{both, made, done, done_by, stuck_last, stuck_last_by, all_left, at_second, unmake, by_test}
+use Rattle.c_parse.proofs.Leaves.{the_sign}
+use Rattle.c_parse.proofs.TwoAhead.{TwoAhead, widened_read, widened_stuck}
+use Rattle.c_parse.proofs.CallBegins.{is_opening, begins_call, expression-no-call, call-begins}
+use Rattle.c_parse.proofs.CallTexts.{no_arguments, call_starts, name_lvalue}
 
-split-ends : (b c : Bool) → (b || c) ≡ false → (b ≡ false) × (c ≡ false)
-split-ends true c is = absurd (false≢true (sym is))
-split-ends false c is = (refl, is)
+abbrev pub CallForm : Dialect → RightSide → Tokens → Type 0
+CallForm dialect = Made right.Call (SpellsCall dialect)
 
-right-ends : (m : Tokens) → RightEnds m → (begins is_opening m ≡ false) × Ends loosest_level m
-right-ends [] ends = (refl, refl)
-right-ends (t ∷ m) ends = split-ends (is_opening t) (goes_on loosest_level t) ends
+abbrev pub ValueForm : Dialect → RightSide → Tokens → Type 0
+ValueForm dialect = Made right.Value (SpellsWhole dialect)
 
--- from a name on that was passed, a call is ahead where a `(` stands behind
-call-there : (passed : Option Named) (ts : Tokens) → is_some passed ≡ true → begins is_opening ts ≡ true → begins_call (from_name passed ts) ≡ true
-call-there None ts is there = absurd (false≢true is)
-call-there (Some x) ts is there = there
+module _ (dialect : Dialect) (x : Named) (at : Tokens) where
+  abbrev t : Placed Token
+  t = name_token x
 
-no-call-there : (passed : Option Named) (ts before : Tokens) → before ≡ from_name passed ts → IfNone passed (begins is_name before ≡ false) → (is_some passed ≡ false) ⊎ (begins is_opening ts ≡ false) → begins_call before ≡ false
-no-call-there None ts before same none which = first-not before none
-no-call-there (Some x) ts before same none (inl no_name) = absurd (false≢true (sym no_name))
-no-call-there (Some x) ts before same none (inr no_opening) = ap begins_call same ∙ no_opening
+  -- what agrees with a name and the token behind it begins a call as they do
+  both-there : (l : Tokens) → first l ≡ Some t → first (drop 1 l) ≡ first at → begins_call l ≡ begins is_opening at
+  both-there [] same second = absurd (false≢true (ap is_some same))
+  both-there (u ∷ us) same second = ap (λ (v : Placed Token). is_name v && begins is_opening us) (same_Some u t same) ∙ first-begins is_opening us at second
 
-module _ (dialect : Dialect) where
-  abbrev Right : RightSide → Tokens → Type 0
-  Right = SpellsRightSide dialect
+  pub call_ahead : begins is_opening at ≡ true → TwoAhead (SpellsRightSide dialect) (CallForm dialect) RightEnds Anything t at
+  call_ahead there = record {
+    within = λ z w text. inl text;
+    follow = λ m follows. tt;
+    ends = tt;
+    only = λ z w m text follows same second. elim text [
+      | inl a ↦ a
+      | inr a ↦ absurd (false≢true (sym (expression-no-call dialect loosest_level a.0 w m a.2 (fewer right_going_on (this_sign mark.OpenParenthesis) refl m follows)) ∙ both-there (w ++ m) same second ∙ there))
+    ];
+    begun =
+        let rest = both (the_sign mark.OpenParenthesis) (both (no_arguments dialect) (the_sign mark.CloseParenthesis)) in
+        (_, rest.1, (call_of (x, rest.0), refl, ((x, rest.0), refl, (t ∷ [], rest.1, refl, (t, refl, refl), rest.2))));
+  }
 
-  abbrev CallForm : RightSide → Tokens → Type 0
-  CallForm = Made right.Call (SpellsCall dialect)
+  pub value_ahead : begins is_opening at ≡ false → TwoAhead (SpellsRightSide dialect) (ValueForm dialect) RightEnds (Ends loosest_level) t at
+  value_ahead none = record {
+    within = λ z w text. inr text;
+    follow = fewer right_going_on going_on refl;
+    ends = refl;
+    only = λ z w m text follows same second. elim text [
+      | inl a ↦ absurd (false≢true (sym none ∙ sym (both-there (w ++ m) same second) ∙ call-begins dialect a.0 w m a.2))
+      | inr a ↦ a
+    ];
+    begun =
+        let l : Lvalue = record { base = base.Variable x; parts = [] } in
+        let e = Value x.place l in
+        (right.Value e, [], (e, refl, tightest dialect e (t ∷ []) 10 1 refl (value dialect l e (t ∷ []) refl (name_lvalue dialect x (t ∷ []) (t, refl, refl)))));
+  }
 
-  abbrev ValueForm : RightSide → Tokens → Type 0
-  ValueForm = Made right.Value (SpellsWhole dialect)
+-- where no name stands, an expression does
+pub value_there : (dialect : Dialect) (before : Tokens) → begins is_name before ≡ false → Leaves (SpellsRightSide dialect) RightEnds before before right.Value (SpellsWhole dialect)
+value_there dialect before none = unmake (at_second (all_left (SpellsRightSide dialect) RightEnds before) (by_test (among a_name (built right.Call (call_starts dialect)) refl) none))
 
-  call-only : (r : RightSide) (w m : Tokens) → Right r w → RightEnds m → begins_call (w ++ m) ≡ true → CallForm r w
-  call-only r w m (inl text) ends there = text
-  call-only r w m (inr (e, is, text)) ends there = absurd (false≢true (sym (expression-no-call dialect loosest_level e w m text (right-ends m ends).0) ∙ there))
+here : {passed : Option Named} {ts before : Tokens} {x : Named} → before ≡ from_name passed ts → passed ≡ Some x → before ≡ name_token x ∷ ts
+here {ts = ts} same is = same ∙ ap (λ (p : Option Named). from_name p ts) is
 
-  value-only : (r : RightSide) (w m : Tokens) → Right r w → RightEnds m → begins_call (w ++ m) ≡ false → ValueForm r w
-  value-only r w m (inl (c, is, text)) ends none = absurd (false≢true (sym none ∙ call-begins dialect c w m text))
-  value-only r w m (inr text) ends none = text
+pub none_passed : (dialect : Dialect) {passed : Option Named} {ts before : Tokens} → before ≡ from_name passed ts → passed ≡ None → IfNone passed (begins is_name before ≡ false) → Leaves (SpellsRightSide dialect) RightEnds before ts right.Value (SpellsWhole dialect)
+none_passed dialect {ts = ts} {before = before} same is none =
+    let there : before ≡ ts = same ∙ ap (λ (p : Option Named). from_name p ts) is in
+    let no_name : begins is_name before ≡ false = subst (λ (p : Option Named). IfNone p (begins is_name before ≡ false)) is none in
+    subst (λ (l : Tokens). Leaves (SpellsRightSide dialect) RightEnds before l right.Value (SpellsWhole dialect)) there (value_there dialect before no_name)
 
-  some-call : (w : Tokens) → begins_call (w ++ []) ≡ true → 0 < length w
-  some-call [] is = absurd (false≢true is)
-  some-call (t ∷ w) is = omega arith
+module _ (dialect : Dialect) {passed : Option Named} {ts before after : Tokens} {x : Named} (same : before ≡ from_name passed ts) (is : passed ≡ Some x) where
+  pub call_read : begins is_opening ts ≡ true → {c : Call} → Reached (SpellsCall dialect) Anything (name_token x ∷ ts) after c → Reached (SpellsRightSide dialect) RightEnds before after (right.Call c)
+  call_read there {c = c} part = subst (λ (l : Tokens). Reached (SpellsRightSide dialect) RightEnds l after (right.Call c)) (sym (here same is))
+      (widened_read (call_ahead dialect x ts there) (done (made right.Call (SpellsCall dialect) Anything (name_token x ∷ ts)) part))
 
-  a_call : (t : Placed Token) → is_name t ≡ true → (r : RightSide) × (v : Tokens) × CallForm r (t ∷ v)
-  a_call t is =
-      let x = some-of (name_of t) is in
-      let n = no_arguments dialect in
-      (right.Call (call_of (x.0, n.0)), n.1, (call_of (x.0, n.0), refl, ((x.0, n.0), refl, (t ∷ [], n.1, refl, (t, refl, x.1), n.2))))
+  pub call_stuck : begins is_opening ts ≡ true → Stuck (SpellsCall dialect) Anything (name_token x ∷ ts) after → Stuck (SpellsRightSide dialect) RightEnds before after
+  call_stuck there part = subst (λ (l : Tokens). Stuck (SpellsRightSide dialect) RightEnds l after) (sym (here same is))
+      (widened_stuck (call_ahead dialect x ts there) (stuck_last (made right.Call (SpellsCall dialect) Anything (name_token x ∷ ts)) part))
 
-  a_value : (t : Placed Token) → is_name t ≡ true → (r : RightSide) × (v : Tokens) × ValueForm r (t ∷ v)
-  a_value t is =
-      let x = some-of (name_of t) is in
-      let l : Lvalue = record { base = base.Variable x.0; parts = [] } in
-      let e = Value x.0.place l in (
-        right.Value e,
-        [],
-        (
-          e,
-          refl,
-          single dialect 10 1 e (t ∷ []) refl (value dialect l e (t ∷ []) refl
-              (lvalue dialect (base.Variable x.0) [] (t ∷ []) [] l (t ∷ []) refl refl (inl (x.0, refl, (t, refl, x.1))) (no_part dialect [] [] refl refl))),
-        ),
-      )
+  pub value_read : begins is_opening ts ≡ false → {e : Expression} → Reached (SpellsWhole dialect) (Ends loosest_level) (name_token x ∷ ts) after e → Reached (SpellsRightSide dialect) RightEnds before after (right.Value e)
+  value_read none {e = e} part = subst (λ (l : Tokens). Reached (SpellsRightSide dialect) RightEnds l after (right.Value e)) (sym (here same is))
+      (widened_read (value_ahead dialect x ts none) (done_by (made right.Value (SpellsWhole dialect) (Ends loosest_level) (name_token x ∷ ts)) (λ m ends. ends) part))
 
-  module _ (before after : Tokens) where
-    module _ (there : begins_call before ≡ true) where
-      call-read : (c : Call) → Reached (SpellsCall dialect) Anything before after c → Reached Right RightEnds before after (right.Call c)
-      call-read c part = chosen-read is_name is_opening Right CallForm RightEnds Anything true (λ r w text. inl text) call-only
-          (λ r w text. some-call w (call-begins dialect text.0 w [] text.2)) (λ m ends. tt) before after there (right.Call c)
-          (last CallForm Anything before (SpellsCall dialect) Anything before after right.Call (made right.Call (SpellsCall dialect) Anything before) (λ m follows. follows) c part)
+  pub value_stuck : begins is_opening ts ≡ false → Stuck (SpellsWhole dialect) (Ends loosest_level) (name_token x ∷ ts) after → Stuck (SpellsRightSide dialect) RightEnds before after
+  value_stuck none part = subst (λ (l : Tokens). Stuck (SpellsRightSide dialect) RightEnds l after) (sym (here same is))
+      (widened_stuck (value_ahead dialect x ts none) (stuck_last_by (made right.Value (SpellsWhole dialect) (Ends loosest_level) (name_token x ∷ ts)) (λ m ends. ends) part))
 
-      call-stuck : Stuck (SpellsCall dialect) Anything before after → Stuck Right RightEnds before after
-      call-stuck part = chosen-stuck is_name is_opening Right CallForm RightEnds Anything true (λ r w text. inl text) call-only
-          (λ r w text. some-call w (call-begins dialect text.0 w [] text.2)) (λ m ends. tt) before after there tt a_call
-          (last-stuck CallForm Anything before (SpellsCall dialect) Anything before after right.Call (made right.Call (SpellsCall dialect) Anything before) (λ m follows. follows) part)
-
-    module _ (none : begins_call before ≡ false) where
-      value-read : (e : Expression) → Reached (SpellsWhole dialect) (Ends loosest_level) before after e → Reached Right RightEnds before after (right.Value e)
-      value-read e part = chosen-read is_name is_opening Right ValueForm RightEnds (Ends loosest_level) false (λ r w text. inr text) value-only
-          (λ r w text. expression-some dialect loosest_level text.0 w text.2) (λ m ends. (right-ends m ends).1) before after none (right.Value e)
-          (last ValueForm (Ends loosest_level) before (SpellsWhole dialect) (Ends loosest_level) before after right.Value (made right.Value (SpellsWhole dialect) (Ends loosest_level) before) (λ m follows. follows) e part)
-
-      value-stuck : Stuck (SpellsWhole dialect) (Ends loosest_level) before after → Stuck Right RightEnds before after
-      value-stuck part = chosen-stuck is_name is_opening Right ValueForm RightEnds (Ends loosest_level) false (λ r w text. inr text) value-only
-          (λ r w text. expression-some dialect loosest_level text.0 w text.2) (λ m ends. (right-ends m ends).1) before after none refl a_value
-          (last-stuck ValueForm (Ends loosest_level) before (SpellsWhole dialect) (Ends loosest_level) before after right.Value (made right.Value (SpellsWhole dialect) (Ends loosest_level) before) (λ m follows. follows) part)
-
-  -- a name may have been passed before the rest was read
-  module _ (passed : Option Named) (ts before : Tokens) (same : before ≡ from_name passed ts) (after : Tokens) where
-    module _ (is : is_some passed ≡ true) (there : begins is_opening ts ≡ true) where
-      pub right-call-read : (c : Call) → Reached (SpellsCall dialect) Anything (from_name passed ts) after c → Reached Right RightEnds before after (right.Call c)
-      right-call-read c part =
-          subst (λ (l : Tokens). Reached Right RightEnds l after (right.Call c)) (sym same) (call-read (from_name passed ts) after (call-there passed ts is there) c part)
-
-      pub right-call-stuck : Stuck (SpellsCall dialect) Anything (from_name passed ts) after → Stuck Right RightEnds before after
-      right-call-stuck part =
-          subst (λ (l : Tokens). Stuck Right RightEnds l after) (sym same) (call-stuck (from_name passed ts) after (call-there passed ts is there) part)
-
-    module _ (none : IfNone passed (begins is_name before ≡ false)) (which : (is_some passed ≡ false) ⊎ (begins is_opening ts ≡ false)) where
-      pub right-value-read : (e : Expression) → Reached (SpellsWhole dialect) (Ends loosest_level) (from_name passed ts) after e → Reached Right RightEnds before after (right.Value e)
-      right-value-read e part = value-read before after (no-call-there passed ts before same none which) e
-          (subst (λ (l : Tokens). Reached (SpellsWhole dialect) (Ends loosest_level) l after e) (sym same) part)
-
-      pub right-value-stuck : Stuck (SpellsWhole dialect) (Ends loosest_level) (from_name passed ts) after → Stuck Right RightEnds before after
-      right-value-stuck part = value-stuck before after (no-call-there passed ts before same none which)
-          (subst (λ (l : Tokens). Stuck (SpellsWhole dialect) (Ends loosest_level) l after) (sym same) part)
+pub right_ends : (m : Tokens) → RightEnds m → Ends loosest_level m
+right_ends = fewer right_going_on going_on refl

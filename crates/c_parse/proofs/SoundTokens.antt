@@ -1,6 +1,6 @@
 -- Tokens in which no loop has an empty range, whatever stands behind them.
 use Rattle.std.proofs.Common.{◌≡◌, ◌∙◌, refl, sym, ap, subst, Bool, true, false, List, [], ◌∷◌, ◌++◌, map, get_or, append_assoc, append-nil, Some}
-use Rattle.std.specs.Prelude.{ℤ, ◌≤ℤ◌, is_some, ⊤}
+use Rattle.std.specs.Prelude.{◌≤ℤ◌, is_some, ⊤}
 use Rattle.std.specs.List.{flat_map}
 use Rattle.std.specs.Str.{bytes_eq}
 use Rattle.std.proofs.lemmas.Bool.{false≢true}

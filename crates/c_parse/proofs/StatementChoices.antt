@@ -6,7 +6,7 @@ use Rattle.std.proofs.lemmas.Bool.Decides.{nat_tests}
 use Rattle.hw_text.specs.declared.place.Place.{Place}
 use Rattle.hw_text.specs.Language.{Nothing, ◌⋅◌, ◌∣◌, Made}
 use Rattle.hw_text.specs.Reading.{begins, Anything, Reached, Leaves}
-use Rattle.hw_text.proofs.Reading.{begun, refined, rebuilt, ended, made-begins, then-begins, first-begins}
+use Rattle.hw_text.proofs.Reading.{begun, refined, rebuilt, ended, first-begins}
 use Rattle.c_tree.specs.declared.dialect.Dialect.TheVariants.{Full, User}
 use Rattle.c_tree.specs.declared.dialect.Dialect.{Dialect}
 use Rattle.c_tree.specs.Dialects.{is_full}
@@ -23,10 +23,12 @@ use Rattle.c_parse.specs.CallGrammar.{Word}
 use Rattle.c_parse.specs.PlainGrammar.{SpellsPlain, SpellsCondition}
 use Rattle.c_parse.specs.CountGrammar.{SpellsCount, SpellsForeverHead}
 use Rattle.c_parse.specs.StatementGrammar.{LinksFit, SpellsStatement, SpellsLoop, SpellsStatements, SpellsBlock, SpellsBranch, SpellsElseIfs, no_branch, else_if, SpellsOtherwise, no_else, an_else, SpellsElse, SpellsChoice, SpellsFor, NoElse, count_of}
-use Rattle.c_parse.proofs.StatementTexts.{fits-as, first_fits, branch_of, LoopForm, StatementForm, block_opened, block_shut, branch_opened, branch_shut, loop_opened, loop_shut, statement_opened, statement_shut, block_begins, branch_begins, choice_begins, for_begins, plain_begins}
+use Rattle.c_parse.proofs.StatementTexts.{fits-as, first_fits, branch_of, LoopForm, StatementForm, block_opened, block_shut, branch_opened, branch_shut, loop_opened, loop_shut, statement_opened, statement_shut, block_starts, branch_starts, choice_starts, for_starts}
 use Rattle.c_parse.proofs.Steps.{at_first, at_second, in_full, unmake, by_test, by_full, either_way, and_left, and_right, as_value}
-use Rattle.c_parse.proofs.Leaves.{sign_begins, word_begins, name_begins, integer_begins, this_sign, this_word}
-use Rattle.c_parse.proofs.CountTexts.{count_begins}
+use Rattle.c_parse.proofs.Shapes.{built, first, apart, among}
+use Rattle.c_parse.proofs.TokenShapes.{this_sign, this_word, of_kind}
+use Rattle.c_parse.proofs.PlainTexts.{plain_starts}
+use Rattle.c_parse.proofs.CountTexts.{count_starts}
 
 module _ (dialect : Dialect) (before : Tokens) where
   pub block_left : Leaves (SpellsBlock dialect) Anything before before (λ p. p.1.0) (Sign mark.OpenBrace ⋅ SpellsStatements dialect ⋅ Sign mark.CloseBrace)
@@ -39,26 +41,14 @@ module _ (dialect : Dialect) (before : Tokens) where
   statement_left = begun (SpellsStatement dialect) NoElse before (λ z. z) (StatementForm dialect) (λ z w text. (z, refl, statement_opened dialect z w text)) (statement_shut dialect)
 
   pub choice_there : begins (is_word keyword.If) before ≡ true → Leaves (SpellsStatement dialect) NoElse before before (λ z. z) (SpellsChoice dialect)
-  choice_there there = at_first
-      (at_second statement_left
-      (by_test (plain_begins dialect (is_word keyword.If) false
-      (integer_begins (is_word keyword.If) false (λ p. refl) (λ p. refl) (λ p. refl) (λ p. refl) (λ p. refl) (λ p. refl) (λ p. refl) (λ p. refl))
-      (word_begins (is_word keyword.If) false keyword.Bool (λ p. refl)) (name_begins (is_word keyword.If) false (λ n p. refl)) (sign_begins (is_word keyword.If) false mark.OpenParenthesis (λ p. refl))
-      (word_begins (is_word keyword.If) false keyword.Break (λ p. refl))) there))
-      (by_test (for_begins dialect (is_word keyword.If) false (word_begins (is_word keyword.If) false keyword.For (λ p. refl))) there)
+  choice_there there = at_first (at_second statement_left (by_test (apart (this_word keyword.If) (plain_starts dialect) refl) there)) (by_test (apart (this_word keyword.If) (for_starts dialect) refl) there)
 
   pub for_there : begins (is_word keyword.For) before ≡ true → Leaves (SpellsStatement dialect) NoElse before before (λ z. z) (SpellsFor dialect)
-  for_there there = at_second
-      (at_second statement_left
-      (by_test (plain_begins dialect (is_word keyword.For) false
-      (integer_begins (is_word keyword.For) false (λ p. refl) (λ p. refl) (λ p. refl) (λ p. refl) (λ p. refl) (λ p. refl) (λ p. refl) (λ p. refl))
-      (word_begins (is_word keyword.For) false keyword.Bool (λ p. refl)) (name_begins (is_word keyword.For) false (λ n p. refl)) (sign_begins (is_word keyword.For) false mark.OpenParenthesis (λ p. refl))
-      (word_begins (is_word keyword.For) false keyword.Break (λ p. refl))) there))
-      (by_test (choice_begins dialect (is_word keyword.For) false (word_begins (is_word keyword.For) false keyword.If (λ p. refl))) there)
+  for_there there = at_second (at_second statement_left (by_test (apart (this_word keyword.For) (plain_starts dialect) refl) there)) (by_test (apart (this_word keyword.For) (choice_starts dialect) refl) there)
 
   pub plain_there : begins (is_word keyword.If) before ≡ false → begins (is_word keyword.For) before ≡ false → Leaves (SpellsStatement dialect) NoElse before before (λ z. z) (SpellsPlain dialect)
   plain_there no_if no_for = at_first statement_left
-      (either_way (by_test (choice_begins dialect (is_word keyword.If) true (this_word keyword.If)) no_if) (by_test (for_begins dialect (is_word keyword.For) true (this_word keyword.For)) no_for))
+      (either_way (by_test (among (this_word keyword.If) (choice_starts dialect) refl) no_if) (by_test (among (this_word keyword.For) (for_starts dialect) refl) no_for))
 
 module _ {dialect : Dialect} {before at : Tokens} {build : Statement → Statement} (so : Leaves (SpellsFor dialect) Anything before at build (SpellsLoop dialect)) where
   loop_left : Leaves (SpellsFor dialect) Anything before at build (LoopForm dialect)
@@ -66,23 +56,21 @@ module _ {dialect : Dialect} {before at : Tokens} {build : Statement → Stateme
 
   pub forever_there : (is_full dialect && begins (is_mark mark.Semicolon) at) ≡ true → Leaves (SpellsFor dialect) Anything before at (λ p. build (Forever p.1)) (SpellsForeverHead ⋅ SpellsBlock dialect)
   forever_there there = unmake (in_full dialect (at_second loop_left
-      (by_test (made-begins (is_mark mark.Semicolon) false (SpellsCount ⋅ SpellsBlock dialect) count_of
-      (then-begins (is_mark mark.Semicolon) false SpellsCount (SpellsBlock dialect)
-      (count_begins (is_mark mark.Semicolon) false (integer_begins (is_mark mark.Semicolon) false (λ p. refl) (λ p. refl) (λ p. refl) (λ p. refl) (λ p. refl) (λ p. refl) (λ p. refl) (λ p. refl)))))
+      (by_test (apart (this_sign mark.Semicolon) (built _ (first _ count_starts)) refl)
       (and_right (is_full dialect) (begins (is_mark mark.Semicolon) at) there)))
       (and_left (is_full dialect) (begins (is_mark mark.Semicolon) at) there))
 
   pub count_there : (is_full dialect && begins (is_mark mark.Semicolon) at) ≡ false → Leaves (SpellsFor dialect) Anything before at (λ p. build (count_of p)) (SpellsCount ⋅ SpellsBlock dialect)
   count_there none_there = unmake (at_first loop_left
-      (by_full dialect (made-begins (is_mark mark.Semicolon) true (SpellsForeverHead ⋅ SpellsBlock dialect) (λ p. Forever p.1)
-      (then-begins (is_mark mark.Semicolon) true SpellsForeverHead (SpellsBlock dialect)
-      (made-begins (is_mark mark.Semicolon) true (Sign mark.Semicolon ⋅ Sign mark.Semicolon ⋅ Sign mark.CloseParenthesis) (λ p. tt)
-      (then-begins (is_mark mark.Semicolon) true (Sign mark.Semicolon) (Sign mark.Semicolon ⋅ Sign mark.CloseParenthesis) (this_sign mark.Semicolon))))) none_there))
+      (by_full dialect (among (this_sign mark.Semicolon) (built _ (first _ (built _ (first _ (of_kind (this_sign mark.Semicolon)))))) refl) none_there))
 
 -- behind an `else`, so many links having been read
 abbrev pub ElseRest : Dialect → ℕ → List Branch × Otherwise → Tokens → Type 0
 ElseRest dialect n =
     Made (λ p. (p.0 ∷ p.1.0, p.1.1)) (SpellsBranch dialect ⋅ SpellsElse dialect (n + 1)) ∣ Made (λ body. ([], otherwise.Block body)) (SpellsBlock dialect)
+
+else_word : (p : Place) (w m : Tokens) → Word keyword.Else p w → begins (is_word keyword.Else) (w ++ m) ≡ true
+else_word = among (this_word keyword.Else) (of_kind (this_word keyword.Else)) refl
 
 module _ (dialect : Dialect) (n : ℕ) where
   an_else_more : LinksFit dialect n → (p : Place × (List Branch × Otherwise)) (v : Tokens) → (Word keyword.Else ⋅ ElseRest dialect n) p v → SpellsElse dialect n p.1 v
@@ -136,9 +124,9 @@ module _ (dialect : Dialect) (n : ℕ) where
 
   no_parts : (y : List Branch × Otherwise) (us vs v m : Tokens) → SpellsElseIfs dialect y.0 us → SpellsOtherwise dialect y.1 vs → v ≡ us ++ vs → begins (is_word keyword.Else) (v ++ m) ≡ false → (u : ⊤) × (y ≡ ([], otherwise.Nothing)) × Nothing u v
   no_parts y us vs v m (else_if f p b bs es bb cs all ts is split word one more) last whole none =
-      absurd (false≢true (sym none ∙ ap (λ (l : Tokens). begins (is_word keyword.Else) (l ++ m)) (whole ∙ ap (λ (l : Tokens). l ++ vs) split ∙ append_assoc es (bb ++ cs) vs) ∙ ap (begins (is_word keyword.Else)) (append_assoc es ((bb ++ cs) ++ vs) m) ∙ this_word keyword.Else p es (((bb ++ cs) ++ vs) ++ m) word))
+      absurd (false≢true (sym none ∙ ap (λ (l : Tokens). begins (is_word keyword.Else) (l ++ m)) (whole ∙ ap (λ (l : Tokens). l ++ vs) split ∙ append_assoc es (bb ++ cs) vs) ∙ ap (begins (is_word keyword.Else)) (append_assoc es ((bb ++ cs) ++ vs) m) ∙ else_word p es (((bb ++ cs) ++ vs) ++ m) word))
   no_parts y us vs v m (no_branch f all ts empty_list empty) (an_else g p body es bb o ws is split word inside) whole none =
-      absurd (false≢true (sym none ∙ ap (λ (l : Tokens). begins (is_word keyword.Else) (l ++ m)) (whole ∙ ap (λ (l : Tokens). l ++ vs) empty ∙ split) ∙ ap (begins (is_word keyword.Else)) (append_assoc es bb m) ∙ this_word keyword.Else p es (bb ++ m) word))
+      absurd (false≢true (sym none ∙ ap (λ (l : Tokens). begins (is_word keyword.Else) (l ++ m)) (whole ∙ ap (λ (l : Tokens). l ++ vs) empty ∙ split) ∙ ap (begins (is_word keyword.Else)) (append_assoc es bb m) ∙ else_word p es (bb ++ m) word))
   no_parts y us vs v m (no_branch f all ts none_of empty) (no_else g o ws is blank) whole none =
       (tt, ap (λ (l : List Branch). (l, y.1)) none_of ∙ ap (λ (l : Otherwise). ([], l)) is, whole ∙ ap (λ (l : Tokens). l ++ vs) empty ∙ blank)
 
@@ -195,7 +183,7 @@ module _ {dialect : Dialect} {before at : Tokens} (bs : List Branch) (so : Leave
   block_there none = unmake (at_second so (record {
     none = λ y w m text follows same.
         let parts = text.2 in
-        let if_there = then-begins (is_word keyword.If) true (SpellsBranch dialect) (SpellsElse dialect (length bs + 1)) (branch_begins dialect (is_word keyword.If) true (this_word keyword.If)) text.0 w m text.2 in
+        let if_there = among (this_word keyword.If) (first (SpellsElse dialect (length bs + 1)) (branch_starts dialect)) refl text.0 w m text.2 in
         let at_if : begins (is_word keyword.If) at ≡ true = sym (first-begins (is_word keyword.If) (w ++ m) at same) ∙ if_there in
         let on : (is_full dialect || nat_lt (length bs) 64) ≡ true = room dialect (length bs) (length text.0.1.0) parts.4.0 in
         false≢true (sym none ∙ ap (λ (b : Bool). b && (is_full dialect || nat_lt (length bs) 64)) at_if ∙ on);
@@ -203,7 +191,7 @@ module _ {dialect : Dialect} {before at : Tokens} (bs : List Branch) (so : Leave
 
   pub branch_there : begins (is_word keyword.If) at ≡ true → Leaves (SpellsElse dialect 0) NoElse before at (λ p. so_far bs (p.0 ∷ p.1.0, p.1.1)) (SpellsBranch dialect ⋅ SpellsElse dialect (length bs + 1))
   branch_there there = unmake (at_first so
-      (by_test (made-begins (is_word keyword.If) false (SpellsBlock dialect) (λ body. ([], otherwise.Block body)) (block_begins dialect (is_word keyword.If) false (sign_begins (is_word keyword.If) false mark.OpenBrace (λ p. refl)))) there))
+      (by_test (apart (this_word keyword.If) (built _ (block_starts dialect)) refl) there))
 
 -- one more branch has been read
 pub branch_read : {dialect : Dialect} {before at : Tokens} (bs : List Branch) (b : Branch) {new : List Branch} → new ≡ bs ++ b ∷ [] → Leaves (SpellsElse dialect 0) NoElse before at (λ y. so_far bs (b ∷ y.0, y.1)) (SpellsElse dialect (length bs + 1)) → Leaves (SpellsElse dialect 0) NoElse before at (so_far new) (SpellsElse dialect (length new))

@@ -1,11 +1,8 @@
 -- Statements and blocks: their forms, texts of them, and with which tokens they begin.
-use Rattle.std.proofs.Common.{◌≡◌, ◌∙◌, refl, sym, ap, subst, ℕ, ◌+◌, Bool, true, false, ◌||◌, List, [], ◌∷◌, ◌++◌, length, inl, inr, arith, lit≤}
-use Rattle.std.proofs.lemmas.Bool.{false≢true}
-use Rattle.hw_text.specs.declared.placed.Placed.{Placed}
+use Rattle.std.proofs.Common.{◌≡◌, ◌∙◌, refl, sym, ap, subst, ℕ, ◌+◌, false, List, [], ◌∷◌, ◌++◌, length, inl, inr, arith, lit≤}
 use Rattle.hw_text.specs.declared.place.Place.{Place}
-use Rattle.hw_text.specs.Language.{◌⋅◌, ◌∣◌, Made, Each, One}
-use Rattle.hw_text.specs.Reading.{Begins, BeginsWith, Anything, Leaves}
-use Rattle.hw_text.proofs.Reading.{begun, then-begins}
+use Rattle.hw_text.specs.Language.{◌⋅◌, ◌∣◌, Made, Each}
+use Rattle.hw_text.specs.Reading.{BeginsWith, Anything, Leaves}
 use Rattle.c_tree.specs.declared.dialect.Dialect.{Dialect}
 use Rattle.c_tree.specs.declared.expression.RightSide.{RightSide}
 use Rattle.c_tree.specs.declared.statement.Branch.{Branch}
@@ -13,22 +10,23 @@ use Rattle.c_tree.specs.declared.statement.Otherwise.{Otherwise}
 use Rattle.c_tree.specs.declared.statement.Otherwise.TheVariants as otherwise
 use Rattle.c_tree.specs.declared.statement.Statement.{Statement}
 use Rattle.c_tree.specs.declared.statement.Statement.TheVariants.{Forever}
-use Rattle.c_parse.specs.declared.token.Token.{Token}
 use Rattle.c_parse.specs.declared.keyword.Keyword.TheVariants as keyword
 use Rattle.c_parse.specs.declared.mark.Mark.TheVariants as mark
-use Rattle.c_parse.specs.Values.{Tokens, is_mark, is_word, integer_of}
-use Rattle.c_parse.specs.ExpressionGrammar.{Sign, Name, InFull}
+use Rattle.c_parse.specs.Values.{Tokens}
+use Rattle.c_parse.specs.ExpressionGrammar.{Sign, InFull}
 use Rattle.c_parse.specs.CallGrammar.{Word}
 use Rattle.c_parse.specs.PlainGrammar.{SpellsPlain, SpellsCondition}
 use Rattle.c_parse.specs.CountGrammar.{SpellsCount, SpellsForeverHead}
 use Rattle.c_parse.specs.StatementGrammar.{LinksFit, SpellsStatement, plain, choice, loop, SpellsLoop, count, forever, SpellsStatements, no_statement, a_statement, SpellsBlock, block, SpellsBranch, branch, no_branch, no_else, SpellsElse, SpellsChoice, SpellsFor, NoElse, ends_body, count_of}
-use Rattle.c_parse.proofs.TypedefTexts.{type_begins}
 use Rattle.c_parse.proofs.CountTexts.{a_count}
-use Rattle.c_parse.proofs.RightTexts.{a_right}
-use Rattle.c_parse.proofs.PlainTexts.{local-begins, assignment-begins, alone-begins, full-begins}
-use Rattle.c_parse.proofs.Lists.{Listed, any_token}
+use Rattle.c_parse.proofs.CallTexts.{a_right}
+use Rattle.c_parse.proofs.Lists.{Listed, some_member}
 use Rattle.c_parse.proofs.Steps.{Sample, both, sample_of}
-use Rattle.c_parse.proofs.Leaves.{the_sign, sign_begins, word_begins, name_begins, integer_begins, word_so, sign_so}
+use Rattle.hw_text.proofs.Reading.{begun}
+use Rattle.c_parse.proofs.Leaves.{the_sign}
+use Rattle.c_parse.proofs.Shapes.{built, first, either, wider, as_other, apart, among, unlike}
+use Rattle.c_parse.proofs.TokenShapes.{Means, Starts, by_kinds, sign_shape, word_shape, this_sign, this_word, of_kind, sign, word}
+use Rattle.c_parse.proofs.PlainTexts.{plain_shapes, plain_starts}
 
 abbrev pub BlockForm : Dialect → List Statement → Tokens → Type 0
 BlockForm dialect = Made (λ p. p.1.0) (Sign mark.OpenBrace ⋅ SpellsStatements dialect ⋅ Sign mark.CloseBrace)
@@ -44,6 +42,10 @@ LoopForm dialect = Made count_of (SpellsCount ⋅ SpellsBlock dialect) ∣ InFul
 
 abbrev pub StatementForm : Dialect → Statement → Tokens → Type 0
 StatementForm dialect = SpellsPlain dialect ∣ SpellsChoice dialect ∣ SpellsFor dialect
+
+-- the tokens behind a body
+pub a_body_end : Means ends_body (sign_shape mark.CloseBrace ∷ word_shape keyword.Return ∷ [])
+a_body_end = by_kinds ends_body (sign_shape mark.CloseBrace ∷ word_shape keyword.Return ∷ []) (λ p. refl) (λ p. refl) (λ n p. refl) (λ n p. refl) (λ n p. refl)
 
 pub fits-as : (dialect : Dialect) (n m : ℕ) → n ≡ m → LinksFit dialect n → LinksFit dialect m
 fits-as dialect n m same fits = subst (LinksFit dialect) same fits
@@ -116,66 +118,28 @@ module _ (dialect : Dialect) where
   pub first_fits : LinksFit dialect 0
   first_fits = inr (lit≤ tt)
 
-  module _ (test : Placed Token → Bool) (so : Bool) where
-    pub block_begins : Begins test so (Sign mark.OpenBrace) → Begins test so (SpellsBlock dialect)
-    block_begins is z w m text =
-        let form = block_opened z w text in
-        then-begins test so (Sign mark.OpenBrace) (SpellsStatements dialect ⋅ Sign mark.CloseBrace) is form.0 w m form.2
+  pub block_starts : Starts (sign_shape mark.OpenBrace ∷ []) (SpellsBlock dialect)
+  block_starts = as_other block_opened (built (λ p. p.1.0) (first (SpellsStatements dialect ⋅ Sign mark.CloseBrace) (sign mark.OpenBrace refl)))
 
-    pub branch_begins : Begins test so (Word keyword.If) → Begins test so (SpellsBranch dialect)
-    branch_begins is z w m text =
-        let form = branch_opened z w text in
-        then-begins test so (Word keyword.If) (SpellsCondition dialect ⋅ SpellsBlock dialect) is form.0 w m form.2
+  pub branch_starts : Starts (word_shape keyword.If ∷ []) (SpellsBranch dialect)
+  branch_starts = as_other branch_opened (built branch_of (first (SpellsCondition dialect ⋅ SpellsBlock dialect) (word keyword.If refl)))
 
-    pub plain_begins : Begins test so (One integer_of) → Begins test so (Word keyword.Bool) → Begins test so Name → Begins test so (Sign mark.OpenParenthesis) → Begins test so (Word keyword.Break) → Begins test so (SpellsPlain dialect)
-    plain_begins integer truth name opening stop z w m (inl text) = local-begins test so dialect (type_begins test so integer truth name) z w m text
-    plain_begins integer truth name opening stop z w m (inr (inl text)) = assignment-begins test so dialect name opening z w m text
-    plain_begins integer truth name opening stop z w m (inr (inr (inl text))) = alone-begins test so dialect name z w m text
-    plain_begins integer truth name opening stop z w m (inr (inr (inr text))) = full-begins test so dialect stop z w m text
+  pub choice_starts : Starts (word_shape keyword.If ∷ []) (SpellsChoice dialect)
+  choice_starts = built _ (first _ branch_starts)
 
-    pub choice_begins : Begins test so (Word keyword.If) → Begins test so (SpellsChoice dialect)
-    choice_begins is z w m text = then-begins test so (SpellsBranch dialect) (SpellsElse dialect 0) (branch_begins is) text.0 w m text.2
+  pub for_starts : Starts (word_shape keyword.For ∷ []) (SpellsFor dialect)
+  for_starts = built _ (first _ (word keyword.For refl))
 
-    pub for_begins : Begins test so (Word keyword.For) → Begins test so (SpellsFor dialect)
-    for_begins is z w m text = then-begins test so (Word keyword.For) (Sign mark.OpenParenthesis ⋅ SpellsLoop dialect) is text.0 w m text.2
-
-    pub statement_begins : Begins test so (SpellsPlain dialect) → Begins test so (Word keyword.If) → Begins test so (Word keyword.For) → Begins test so (SpellsStatement dialect)
-    statement_begins simple first repeated z w m text = elim (statement_opened z w text) [
-      | inl a ↦ simple z w m a
-      | inr (inl a) ↦ choice_begins first z w m a
-      | inr (inr a) ↦ for_begins repeated z w m a
-    ]
-
-  no-else-at : (b c : Bool) (t : Placed Token) → is_mark mark.CloseBrace t ≡ b → is_word keyword.Return t ≡ c → (b || c) ≡ true → is_word keyword.Else t ≡ false
-  no-else-at true c t brace word is = sign_so (is_word keyword.Else) false mark.CloseBrace (λ p. refl) t brace
-  no-else-at false true t brace word is = word_so (is_word keyword.Else) false keyword.Return (λ p. refl) t word
-  no-else-at false false t brace word is = absurd (false≢true is)
-
-  -- no `else` stands behind statements
-  pub ends_no_else : (m : Tokens) → BeginsWith ends_body m → NoElse m
-  ends_no_else [] ends = refl
-  ends_no_else (t ∷ m) ends = no-else-at (is_mark mark.CloseBrace t) (is_word keyword.Return t) t refl refl ends
-
-  module _ (test : Placed Token → Bool) (so : Bool) (i : Begins test so (One integer_of)) (b : Begins test so (Word keyword.Bool)) (n : Begins test so Name) (o : Begins test so (Sign mark.OpenParenthesis)) (s : Begins test so (Word keyword.Break)) (c : Begins test so (Word keyword.If)) (f : Begins test so (Word keyword.For)) where
-    all-begins : Begins test so (SpellsStatement dialect)
-    all-begins = statement_begins test so (plain_begins test so i b n o s) c f
+  statement_starts : Starts (word_shape keyword.If ∷ word_shape keyword.For ∷ plain_shapes dialect) (SpellsStatement dialect)
+  statement_starts = as_other statement_opened (either (wider (plain_starts dialect) refl) (either (wider choice_starts refl) (wider for_starts refl)))
 
   pub statements_listed : Listed (SpellsStatement dialect) ends_body false NoElse (BeginsWith ends_body)
   statements_listed = record {
-    some = all-begins any_token true
-        (integer_begins any_token true (λ p. refl) (λ p. refl) (λ p. refl) (λ p. refl) (λ p. refl) (λ p. refl) (λ p. refl) (λ p. refl))
-        (word_begins any_token true keyword.Bool (λ p. refl)) (name_begins any_token true (λ n p. refl)) (sign_begins any_token true mark.OpenParenthesis (λ p. refl))
-        (word_begins any_token true keyword.Break (λ p. refl)) (word_begins any_token true keyword.If (λ p. refl)) (word_begins any_token true keyword.For (λ p. refl));
-    starts = all-begins ends_body false
-        (integer_begins ends_body false (λ p. refl) (λ p. refl) (λ p. refl) (λ p. refl) (λ p. refl) (λ p. refl) (λ p. refl) (λ p. refl))
-        (word_begins ends_body false keyword.Bool (λ p. refl)) (name_begins ends_body false (λ n p. refl)) (sign_begins ends_body false mark.OpenParenthesis (λ p. refl))
-        (word_begins ends_body false keyword.Break (λ p. refl)) (word_begins ends_body false keyword.If (λ p. refl)) (word_begins ends_body false keyword.For (λ p. refl));
+    some = some_member statement_starts;
+    starts = apart a_body_end statement_starts refl;
     ends = λ m follows. follows;
-    follow = ends_no_else;
-    next = all-begins (is_word keyword.Else) false
-        (integer_begins (is_word keyword.Else) false (λ p. refl) (λ p. refl) (λ p. refl) (λ p. refl) (λ p. refl) (λ p. refl) (λ p. refl) (λ p. refl))
-        (word_begins (is_word keyword.Else) false keyword.Bool (λ p. refl)) (name_begins (is_word keyword.Else) false (λ n p. refl)) (sign_begins (is_word keyword.Else) false mark.OpenParenthesis (λ p. refl))
-        (word_begins (is_word keyword.Else) false keyword.Break (λ p. refl)) (word_begins (is_word keyword.Else) false keyword.If (λ p. refl)) (word_begins (is_word keyword.Else) false keyword.For (λ p. refl));
+    follow = unlike a_body_end (this_word keyword.Else) refl;
+    next = apart (this_word keyword.Else) statement_starts refl;
   }
 
   -- none has been read
@@ -193,4 +157,4 @@ module _ (dialect : Dialect) where
       (count_of s.0, s.1, loop_shut (count_of s.0) s.1 (inl (s.0, refl, s.2)))
 
 pub close_follow : (y : Place) (w m : Tokens) → Sign mark.CloseBrace y w → Anything m → BeginsWith ends_body (w ++ m)
-close_follow y w m text follows = sign_begins ends_body true mark.CloseBrace (λ p. refl) y w m text
+close_follow y w m text follows = among a_body_end (of_kind (this_sign mark.CloseBrace)) refl y w m text

@@ -106,6 +106,10 @@ module _ {Z : Type 0} {A : Z → Tokens → Type 0} {F : Tokens → Type 0} {bef
   is_absent {build = build} {B = B} so {test = test} is none_there = ended A F before at (λ (u : ⊤). build None)
       (none A F before at B build (λ x w m text follows same. never-begins test B at is none_there x w m text same) so)
 
+  pub is_absent_in_full : (dialect : Dialect) {X : Type 0} {build : _ → Z} {B : X → Tokens → Type 0} → Leaves A F before at build (Maybe (InFull dialect B)) → {test : Placed Token → Bool} → Begins test true B → (is_full dialect && begins test at) ≡ false → Reached A F before at (build None)
+  is_absent_in_full dialect {build = build} {B = B} so {test = test} is none_there = ended A F before at (λ (u : ⊤). build None)
+      (none A F before at (InFull dialect B) build (λ x w m text follows same. (by_full {F = F} dialect is none_there).none x w m text follows same) so)
+
   module _ {after : Tokens} where
     -- a part behind which anything may stand has been read
     pub passed : {X Y : Type 0} {build : X × Y → Z} {B : X → Tokens → Type 0} {C : Y → Tokens → Type 0} → Leaves A F before at build (B ⋅ C) → {x : X} → Reached B Anything at after x → Leaves A F before after (λ y. build (x, y)) C

@@ -1,23 +1,23 @@
 -- Typedefs: texts of their parts, and what stands behind which.
-use Rattle.std.proofs.Common.{◌≡◌, refl, ◌++◌, Bool, true, false, inl, inr}
-use Rattle.hw_text.specs.declared.placed.Placed.{Placed}
-use Rattle.hw_text.specs.Language.{◌⋅◌, ◌∣◌, Made, One}
-use Rattle.hw_text.specs.Reading.{begins, Begins, BeginsWith, BeginsWithout, Anything, Leaves}
-use Rattle.hw_text.proofs.Reading.{made-begins, then-begins, either-begins}
-use Rattle.c_parse.specs.declared.token.Token.{Token}
+use Rattle.std.proofs.Common.{◌≡◌, refl, ◌++◌, true, false, inl, inr, ◌∷◌, []}
+use Rattle.hw_text.specs.Language.{◌∣◌, Made}
+use Rattle.hw_text.specs.Reading.{begins, BeginsWith, BeginsWithout, Anything, Leaves}
 use Rattle.c_parse.specs.declared.keyword.Keyword.{Keyword}
 use Rattle.c_parse.specs.declared.keyword.Keyword.TheVariants as keyword
 use Rattle.c_parse.specs.declared.mark.Mark.TheVariants as mark
-use Rattle.c_parse.specs.Values.{Tokens, is_mark, is_word, integer_of}
+use Rattle.c_parse.specs.Values.{Tokens, is_mark, is_word}
 use Rattle.c_parse.specs.ExpressionGrammar.{Sign, Name}
-use Rattle.c_parse.specs.CallGrammar.{Word, BehindComma, SpellsType, integer_name}
+use Rattle.c_parse.specs.CallGrammar.{BehindComma, SpellsType}
 use Rattle.c_tree.specs.declared.item.Item.{Item}
 use Rattle.c_tree.specs.declared.item.Item.TheVariants as item
 use Rattle.c_tree.specs.declared.type_name.TypeName.TheVariants as class
-use Rattle.c_parse.specs.TypedefGrammar.{Opening, Closing, SpellsMember, SpellsLength, member_of, SpellsEnumeration, SpellsStructure, SpellsTypedef, enumeration_of, structure_of}
+use Rattle.c_parse.specs.TypedefGrammar.{Opening, Closing, SpellsMember, member_of, SpellsEnumeration, SpellsStructure, SpellsTypedef, enumeration_of}
 use Rattle.c_parse.proofs.Steps.{Sample, both, sample_of, nothing_there, no_member, at_first, at_second, unmake, by_test}
-use Rattle.c_parse.proofs.Leaves.{this_word, the_sign, the_word, the_name, sign_begins, word_begins, name_begins, integer_begins}
-use Rattle.c_parse.proofs.Lists.{Listed, any_token}
+use Rattle.c_parse.proofs.Lists.{Listed, some_member}
+use Rattle.c_parse.proofs.Leaves.{the_sign, the_word, the_name}
+use Rattle.c_parse.proofs.Shapes.{built, first, apart, among}
+use Rattle.c_parse.proofs.TokenShapes.{Starts, sign_shape, word_shape, this_sign, this_word, of_kind, sign, word}
+use Rattle.c_parse.proofs.TypeTexts.{type_shapes, type_starts}
 
 pub an_opening : (w : Keyword) → Sample (Opening w)
 an_opening w = sample_of (λ p. tt) (both (the_word w) (the_sign mark.OpenBrace))
@@ -31,32 +31,26 @@ a_type = (class.Defined the_name.0, the_name.1, inr (inr (the_name.0, refl, the_
 pub a_member : Sample SpellsMember
 a_member = sample_of member_of (both a_type (both the_name (both (nothing_there _) (the_sign mark.Semicolon))))
 
--- a type begins as integer types, `bool` and names do
-pub type_begins : (test : Placed Token → Bool) (so : Bool) → Begins test so (One integer_of) → Begins test so (Word keyword.Bool) → Begins test so Name → Begins test so SpellsType
-type_begins test so integer truth name = either-begins test so (Made integer_name (One integer_of)) _
-    (made-begins test so (One integer_of) integer_name integer)
-    (either-begins test so (Made class.Truth (Word keyword.Bool)) (Made class.Defined Name) (made-begins test so (Word keyword.Bool) class.Truth truth) (made-begins test so Name class.Defined name))
-
-closing-begins : (test : Placed Token → Bool) (so : Bool) → Begins test so (Sign mark.CloseBrace) → Begins test so Closing
-closing-begins test so is = made-begins test so _ (λ p. p.1.0) (then-begins test so (Sign mark.CloseBrace) (Name ⋅ Sign mark.Semicolon) is)
+closing_starts : Starts (sign_shape mark.CloseBrace ∷ []) Closing
+closing_starts = built _ (first _ (sign mark.CloseBrace refl))
 
 pub names-follow : (y : _) (w m : Tokens) → Closing y w → Anything m → BeginsWithout (is_mark mark.Comma) (w ++ m)
-names-follow y w m text follows = closing-begins (is_mark mark.Comma) false (sign_begins (is_mark mark.Comma) false mark.CloseBrace (λ p. refl)) y w m text
+names-follow y w m text follows = apart (this_sign mark.Comma) closing_starts refl y w m text
 
 pub members-follow : (y : _) (w m : Tokens) → Closing y w → Anything m → BeginsWith (is_mark mark.CloseBrace) (w ++ m)
-members-follow y w m text follows = closing-begins (is_mark mark.CloseBrace) true (sign_begins (is_mark mark.CloseBrace) true mark.CloseBrace (λ p. refl)) y w m text
+members-follow y w m text follows = among (this_sign mark.CloseBrace) closing_starts refl y w m text
 
 pub length-follow : (F : Tokens → Type 0) (y : _) (w m : Tokens) → Sign mark.Semicolon y w → F m → BeginsWithout (is_mark mark.OpenBracket) (w ++ m)
-length-follow F y w m text follows = sign_begins (is_mark mark.OpenBracket) false mark.Semicolon (λ p. refl) y w m text
+length-follow F y w m text follows = apart (this_sign mark.OpenBracket) (of_kind (this_sign mark.Semicolon)) refl y w m text
 
-comma-begins : {X : Type 0} (test : Placed Token → Bool) (so : Bool) (A : X → Tokens → Type 0) → Begins test so (Sign mark.Comma) → Begins test so (BehindComma A)
-comma-begins test so A is = made-begins test so _ (λ p. p.1) (then-begins test so (Sign mark.Comma) A is)
+comma_starts : {X : Type 0} (A : X → Tokens → Type 0) → Starts (sign_shape mark.Comma ∷ []) (BehindComma A)
+comma_starts A = built _ (first A (sign mark.Comma refl))
 
 -- what stands behind commas
 pub separated : {X : Type 0} (A : X → Tokens → Type 0) (Behind : Tokens → Type 0) → ((m : Tokens) → BeginsWithout (is_mark mark.Comma) m → Behind m) → ((x : X) (w m : Tokens) → BehindComma A x w → Behind (w ++ m)) → Listed (BehindComma A) (is_mark mark.Comma) true Behind (BeginsWithout (is_mark mark.Comma))
 separated A Behind follow next = record {
-  some = comma-begins any_token true A (sign_begins any_token true mark.Comma (λ p. refl));
-  starts = comma-begins (is_mark mark.Comma) true A (sign_begins (is_mark mark.Comma) true mark.Comma (λ p. refl));
+  some = some_member (comma_starts A);
+  starts = among (this_sign mark.Comma) (comma_starts A) refl;
   ends = λ m follows. follows;
   follow = follow;
   next = next;
@@ -65,19 +59,13 @@ separated A Behind follow next = record {
 pub names : Listed (BehindComma Name) (is_mark mark.Comma) true Anything (BeginsWithout (is_mark mark.Comma))
 names = separated Name Anything (λ m follows. tt) (λ x w m text. tt)
 
-member-begins : (test : Placed Token → Bool) (so : Bool) → Begins test so SpellsType → Begins test so SpellsMember
-member-begins test so is = made-begins test so _ member_of (then-begins test so SpellsType (Name ⋅ SpellsLength ⋅ Sign mark.Semicolon) is)
+member_starts : Starts type_shapes SpellsMember
+member_starts = built _ (first _ type_starts)
 
 pub members : Listed SpellsMember (is_mark mark.CloseBrace) false Anything (BeginsWith (is_mark mark.CloseBrace))
 members = record {
-  some = member-begins any_token true
-      (type_begins any_token true
-      (integer_begins any_token true (λ p. refl) (λ p. refl) (λ p. refl) (λ p. refl) (λ p. refl) (λ p. refl) (λ p. refl) (λ p. refl))
-      (word_begins any_token true keyword.Bool (λ p. refl)) (name_begins any_token true (λ n p. refl)));
-  starts = member-begins (is_mark mark.CloseBrace) false
-      (type_begins (is_mark mark.CloseBrace) false
-      (integer_begins (is_mark mark.CloseBrace) false (λ p. refl) (λ p. refl) (λ p. refl) (λ p. refl) (λ p. refl) (λ p. refl) (λ p. refl) (λ p. refl))
-      (word_begins (is_mark mark.CloseBrace) false keyword.Bool (λ p. refl)) (name_begins (is_mark mark.CloseBrace) false (λ n p. refl)));
+  some = some_member member_starts;
+  starts = apart (this_sign mark.CloseBrace) member_starts refl;
   ends = λ m follows. follows;
   follow = λ m follows. tt;
   next = λ x w m text. tt;
@@ -91,16 +79,15 @@ a_typedef =
     let s = both (an_opening keyword.Enum) (both the_name (both (no_member (BehindComma Name)) a_closing)) in
     (item.Enumeration (enumeration_of s.0), s.1, inl (enumeration_of s.0, refl, (s.0, refl, s.2)))
 
-opening-begins : (test : Placed Token → Bool) (so : Bool) (w : Keyword) → Begins test so (Word w) → Begins test so (Opening w)
-opening-begins test so w is = made-begins test so (Word w ⋅ Sign mark.OpenBrace) (λ p. tt) (then-begins test so (Word w) (Sign mark.OpenBrace) is)
+enumeration_starts : Starts (word_shape keyword.Enum ∷ []) (Made item.Enumeration SpellsEnumeration)
+enumeration_starts = built _ (built _ (first _ (built _ (first _ (word keyword.Enum refl)))))
+
+structure_starts : Starts (word_shape keyword.Struct ∷ []) (Made item.Structure SpellsStructure)
+structure_starts = built _ (built _ (first _ (built _ (first _ (word keyword.Struct refl)))))
 
 module _ {before at : Tokens} {build : Item → Item} (so : Leaves SpellsTypedef Anything before at build Either) where
   pub enum_there : begins (is_word keyword.Enum) at ≡ true → Leaves SpellsTypedef Anything before at (λ e. build (item.Enumeration e)) SpellsEnumeration
-  enum_there there = unmake (at_first so (by_test (made-begins (is_word keyword.Enum) false SpellsStructure item.Structure
-      (made-begins (is_word keyword.Enum) false _ structure_of (then-begins (is_word keyword.Enum) false (Opening keyword.Struct) _
-      (opening-begins (is_word keyword.Enum) false keyword.Struct (word_begins (is_word keyword.Enum) false keyword.Struct (λ p. refl)))))) there))
+  enum_there there = unmake (at_first so (by_test (apart (this_word keyword.Enum) structure_starts refl) there))
 
   pub struct_there : begins (is_word keyword.Enum) at ≡ false → Leaves SpellsTypedef Anything before at (λ s. build (item.Structure s)) SpellsStructure
-  struct_there none = unmake (at_second so (by_test (made-begins (is_word keyword.Enum) true SpellsEnumeration item.Enumeration
-      (made-begins (is_word keyword.Enum) true _ enumeration_of (then-begins (is_word keyword.Enum) true (Opening keyword.Enum) _
-      (opening-begins (is_word keyword.Enum) true keyword.Enum (this_word keyword.Enum))))) none))
+  struct_there none = unmake (at_second so (by_test (among (this_word keyword.Enum) enumeration_starts refl) none))

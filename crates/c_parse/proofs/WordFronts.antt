@@ -8,7 +8,8 @@ use Rattle.std.proofs.lemmas.Slice.Eq.{bytes_eq-Decides}
 use Rattle.std.specs.List.{list_all}
 use Rattle.std.specs.Str.{bytes_eq}
 use Rattle.hw_text.specs.Reading.{begins}
-use Rattle.c_tree.specs.Words.{is_word, begins_name, continues_name, is_spelled_as_name, is_identifier}
+use Rattle.hw_types.specs.CWords.{is_c_word}
+use Rattle.c_tree.specs.Names.{begins_name, continues_name, is_spelled_as_name, is_identifier}
 use Rattle.c_tree.specs.Spellings.{identifier_of}
 use Rattle.c_tree.proofs.Spellings.{identifier_of_bytes}
 use Rattle.c_tree.specs.declared.identifier.Identifier.{Identifier}
@@ -87,32 +88,32 @@ among-spelled [] bs u is = absurd (none-some u is)
 among-spelled (w ∷ ws) bs u is = among-step (bytes_eq bs (keyword_text w)) w u (keyword_among ws bs) bs refl is (λ later. among-spelled ws bs u later)
 
 -- the words of the grammar are words of C
-keyword-word : (w : Keyword) → is_word (keyword_text w) ≡ true
-unfolding is_word
+keyword-word : (w : Keyword) → is_c_word (keyword_text w) ≡ true
+unfolding is_c_word
 keyword-word keyword.Static = refl
 keyword-word (keyword.Integer integer.I8) = refl
 keyword-word (keyword.Integer _) = refl
 keyword-word _ = refl
 
-none-named : (bs : List ℕ) (o : Option Keyword) → keyword_named bs ≡ o → is_word bs ≡ false → o ≡ None
+none-named : (bs : List ℕ) (o : Option Keyword) → keyword_named bs ≡ o → is_c_word bs ≡ false → o ≡ None
 unfolding keyword_named
 none-named bs None is other = refl
 none-named bs (Some w) is other =
-    absurd (false≢true (sym other ∙ ap is_word (among-spelled all_keywords bs w is) ∙ keyword-word w))
+    absurd (false≢true (sym other ∙ ap is_c_word (among-spelled all_keywords bs w is) ∙ keyword-word w))
 
 pub name-letter : (n : List ℕ) → is_identifier n ≡ true → (b : ℕ) × (bs : List ℕ) × (n ≡ b ∷ bs) × (begins_name b ≡ true)
 unfolding is_identifier
 name-letter [] h = absurd (false≢true h)
 name-letter (b ∷ bs) h =
-    (b, bs, refl, (and_parts (begins_name b) (list_all continues_name bs) (and_parts (is_spelled_as_name (b ∷ bs)) (not (is_word (b ∷ bs))) h).0).0)
+    (b, bs, refl, (and_parts (begins_name b) (list_all continues_name bs) (and_parts (is_spelled_as_name (b ∷ bs)) (not (is_c_word (b ∷ bs))) h).0).0)
 
 stands-so : (n rest : List ℕ) (x : Identifier) → identifier_of n ≡ Some x → is_identifier n ≡ true → Ended rest → StandsBefore n (token.Name x) rest
 unfolding is_identifier
 stands-so [] rest x is name ended = absurd (false≢true name)
 stands-so (b ∷ bs) rest x is name ended =
-    let both = and_parts (is_spelled_as_name (b ∷ bs)) (not (is_word (b ∷ bs))) name in
+    let both = and_parts (is_spelled_as_name (b ∷ bs)) (not (is_c_word (b ∷ bs))) name in
     let parts = and_parts (begins_name b) (list_all continues_name bs) both.0 in
-    let none = none-named (b ∷ bs) (keyword_named (b ∷ bs)) refl (not-true (is_word (b ∷ bs)) both.1) in
+    let none = none-named (b ∷ bs) (keyword_named (b ∷ bs)) refl (not-true (is_c_word (b ∷ bs)) both.1) in
     (word-kept b (bs ++ rest) (begins-continues b parts.0), word-front b bs rest parts.0 parts.1 ended ∙ rw (none, is) refl)
 
 pub name-stands : (x : Identifier) (rest : List ℕ) → Ended rest → StandsBefore x.bytes (token.Name x) rest

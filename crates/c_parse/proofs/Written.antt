@@ -57,9 +57,6 @@ token Q text t stands = record {
 moved : (a b : List ℕ) (us : List Token) → skipped a ≡ skipped b → Has b us → Has a us
 moved a b us same has = record { at = λ p. subst (λ (s : List ℕ). Laid p s us) (sym same) (has.at p) }
 
-pub no_gap : IsGap []
-no_gap = record { before = λ rest us has. has }
-
 pub space : IsGap (32 ∷ [])
 space = record { before = λ rest us has. moved (32 ∷ rest) rest us refl has }
 

@@ -4,7 +4,6 @@ pub mod CountGrammar
 pub mod DialectTexts
 pub mod ExpressionGrammar
 pub mod Flaws
-pub mod Forms
 pub mod Keywords
 pub mod Levels
 pub mod Lexed

@@ -1,10 +1,11 @@
 -- A name, of which samples of texts are made.
 use Rattle.std.specs.Prelude.{◌≡◌, true, codes, refl}
-use Rattle.c_tree.specs.Words.{is_word, is_identifier}
+use Rattle.hw_types.specs.CWords.{is_c_word}
+use Rattle.c_tree.specs.Names.{is_identifier}
 use Rattle.c_tree.specs.declared.identifier.Identifier.{Identifier}
 
 pub a_is_name : is_identifier (codes "a") ≡ true
-unfolding is_identifier is_word
+unfolding is_identifier is_c_word
 a_is_name = refl
 
 abbrev pub letter_a : Identifier

@@ -7,7 +7,7 @@ use Rattle.hw_text.specs.Places.{place_of_rest}
 use Rattle.hw_text.specs.Tokens.{AreTokensOf}
 use Rattle.hw_text.specs.declared.place.Place.{Place}
 use Rattle.hw_text.specs.declared.placed.Placed.{Placed}
-use Rattle.c_tree.specs.Words.{begins_name, continues_name}
+use Rattle.c_tree.specs.Names.{begins_name, continues_name}
 use Rattle.c_tree.specs.Numerals.{past_numeral}
 use Rattle.c_tree.specs.Spellings.{identifier_of, numeral_of}
 use Rattle.c_tree.specs.declared.identifier.Identifier.{Identifier}

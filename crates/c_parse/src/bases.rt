@@ -3,12 +3,11 @@
 ghost use Rattle.std.specs.Prelude.{◌≡◌};
 ghost use Rattle.hw_text.specs.Reading.{Reads, Anything, BeginsWithout, begins};
 ghost use Rattle.c_parse.specs.declared.mark.Mark.TheVariants as mark;
-ghost use Rattle.c_parse.specs.Values.{is_mark};
-ghost use Rattle.c_parse.specs.Operators.{is_part};
+ghost use Rattle.c_parse.specs.Values.{is_literal, is_mark};
+ghost use Rattle.c_parse.specs.Operators.{is_part, is_unary};
 ghost use Rattle.c_parse.specs.ExpressionGrammar.{SpellsBase};
 ghost use Rattle.c_parse.specs.PartGrammar.{from_name, SpellsNumber, SpellsTruth, SpellsNamedBase, SpellsPointed, SpellsPointedBase, SpellsTarget};
 
-use crate::form::{Form, form_ahead};
 use crate::leaf::{read_one, sign, stands_in_full};
 use crate::mark::Mark;
 use crate::names::name;
@@ -24,6 +23,29 @@ pub fn stands_part(tokens: &Cursor<'_, Placed<Token>>) -> bool
 {
     match tokens.peek() {
         Some(token) => matches!(&token.token, Token::Mark(Mark::Dot | Mark::OpenBracket)),
+        None => false,
+    }
+}
+
+/// Whether a literal is ahead.
+pub fn stands_literal(tokens: &Cursor<'_, Placed<Token>>) -> bool
+    ensures { result ≡ begins is_literal tokens.now }
+{
+    match tokens.peek() {
+        Some(token) => matches!(&token.token, Token::Literal(_)),
+        None => false,
+    }
+}
+
+/// Whether an operator before an operand is ahead.
+pub fn stands_unary(tokens: &Cursor<'_, Placed<Token>>) -> bool
+    ensures { result ≡ begins is_unary tokens.now }
+{
+    match tokens.peek() {
+        Some(token) => matches!(
+            &token.token,
+            Token::Mark(Mark::Minus | Mark::Bang | Mark::Tilde)
+        ),
         None => false,
     }
 }
@@ -106,11 +128,11 @@ pub fn base(
 ) -> Result<Base, ReadFault>
     ensures { Reads (SpellsBase dialect) (BeginsWithout (is_mark mark.Arrow)) (from_name passed tokens.old) tokens.new result }
 {
-    if !dialect.is_full() {
+    if passed.is_some() {
         return named_base(alloc, tokens, dialect, passed);
     }
-    match form_ahead(tokens, &passed) {
-        Form::Parenthesis => pointed_base(alloc, tokens),
-        _ => named_base(alloc, tokens, dialect, passed),
+    if stands_in_full(tokens, dialect, Mark::OpenParenthesis) {
+        return pointed_base(alloc, tokens);
     }
+    named_base(alloc, tokens, dialect, None)
 }

@@ -7,13 +7,12 @@ ghost use Rattle.c_parse.specs.Levels.{loosest_level};
 ghost use Rattle.c_parse.specs.Operators.{Ends, RightEnds};
 ghost use Rattle.c_parse.specs.Values.{name_token, is_mark};
 ghost use Rattle.c_parse.specs.CallGrammar.{BehindComma, Separated, SpellsArgument, SpellsCall, SpellsRightSide};
-ghost use Rattle.c_parse.specs.PartGrammar.{from_name};
 
 use crate::expression_levels::of_level;
 use crate::expressions::expression;
 use crate::leaf::{read_one, sign, stands};
 use crate::mark::Mark;
-use crate::names::{name, pass_name};
+use crate::names::pass_name;
 use crate::operators::LOOSEST_LEVEL;
 use crate::terminals::NameAt;
 use crate::token::Token;
@@ -72,22 +71,6 @@ fn arguments(
     Ok(read)
 }
 
-/// Reads a call, from a name on, if one was passed.
-fn call_from(
-    alloc: Global,
-    tokens: &mut Cursor<'_, Placed<Token>>,
-    dialect: Dialect,
-    passed: Option<Named>,
-) -> Result<Call, ReadFault>
-    ensures { Reads (SpellsCall dialect) Anything (from_name passed tokens.old) tokens.new result }
-{
-    let name = name(alloc, tokens, passed)?;
-    sign(tokens, Mark::OpenParenthesis)?;
-    let arguments = arguments(alloc, tokens, dialect)?;
-    sign(tokens, Mark::CloseParenthesis)?;
-    Ok(Call { name, arguments })
-}
-
 /// Reads a call whose name was passed.
 pub fn call_behind(
     alloc: Global,
@@ -97,7 +80,10 @@ pub fn call_behind(
 ) -> Result<Call, ReadFault>
     ensures { Reads (SpellsCall dialect) Anything (name_token name ∷ tokens.old) tokens.new result }
 {
-    call_from(alloc, tokens, dialect, Some(name))
+    sign(tokens, Mark::OpenParenthesis)?;
+    let arguments = arguments(alloc, tokens, dialect)?;
+    sign(tokens, Mark::CloseParenthesis)?;
+    Ok(Call { name, arguments })
 }
 
 /// Reads what stands on the right: a call, or an expression.
@@ -109,10 +95,14 @@ pub fn right_side(
     ensures { Reads (SpellsRightSide dialect) RightEnds tokens.old tokens.new result }
 {
     let passed = pass_name(alloc, tokens)?;
-    if passed.is_some() && stands(tokens, Mark::OpenParenthesis) {
-        let call = call_from(alloc, tokens, dialect, passed)?;
+    let Some(name) = passed else {
+        let value = expression(alloc, tokens, dialect)?;
+        return Ok(RightSide::Value(value));
+    };
+    if stands(tokens, Mark::OpenParenthesis) {
+        let call = call_behind(alloc, tokens, dialect, name)?;
         return Ok(RightSide::Call(call));
     }
-    let value = of_level(alloc, tokens, dialect, LOOSEST_LEVEL, passed)?;
+    let value = of_level(alloc, tokens, dialect, LOOSEST_LEVEL, Some(name))?;
     Ok(RightSide::Value(value))
 }

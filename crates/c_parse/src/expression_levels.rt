@@ -2,16 +2,16 @@
 
 ghost use Rattle.std.specs.Prelude.{◌≡◌, ◌≤◌};
 ghost use Rattle.hw_text.specs.Reading.{Reads, Anything, BeginsWithout};
-ghost use Rattle.c_parse.specs.declared.form.Form.TheVariants as form;
 ghost use Rattle.c_parse.specs.Levels.{prefix_level};
 ghost use Rattle.c_parse.specs.Operators.{Ends, is_selector};
-ghost use Rattle.c_parse.specs.Forms.{form_ahead};
 ghost use Rattle.c_parse.specs.ExpressionGrammar.{SpellsExpression, SpellsPrefix, SpellsLvalue, SpellsParts};
-ghost use Rattle.c_parse.specs.PartGrammar.{from_name, SpellsPart};
+ghost use Rattle.c_parse.specs.PartGrammar.{from_name, SpellsPart, SpellsPrefixed, SpellsOpened, SpellsValue};
 
-use crate::bases::{base, number, pointed, stands_part, target, truth};
-use crate::form::{Form, form_ahead};
-use crate::leaf::{read_one, sign, stands};
+use crate::bases::{
+    base, number, pointed, stands_literal, stands_part, stands_unary, target, truth,
+};
+use crate::initials::stands_truth;
+use crate::leaf::{read_one, sign, stands, stands_in_full};
 use crate::mark::Mark;
 use crate::operators::{LOOSEST_LEVEL, PREFIX_LEVEL, operator_ahead};
 use crate::terminals::{NameAt, UnaryAt};
@@ -34,7 +34,7 @@ pub fn of_level(
     ensures { Reads (SpellsExpression dialect level) (Ends level) (from_name passed tokens.old) tokens.new result }
 {
     if level == PREFIX_LEVEL {
-        return operand(alloc, tokens, dialect, passed);
+        return operand_from(alloc, tokens, dialect, passed);
     }
     let mut left = of_level(alloc, tokens, dialect, level + 1, passed)?;
     'operations: while let Some((place, operator)) = operator_ahead(tokens, level) {
@@ -47,7 +47,7 @@ pub fn of_level(
 
 /// Reads an operand, with the operators before it, from a name on, if one was passed.
 #[cycle(expressions)]
-fn operand(
+fn operand_from(
     alloc: Global,
     tokens: &mut Cursor<'_, Placed<Token>>,
     dialect: Dialect,
@@ -55,16 +55,48 @@ fn operand(
 ) -> Result<Expression, ReadFault>
     ensures { Reads (SpellsPrefix dialect) (Ends prefix_level) (from_name passed tokens.old) tokens.new result }
 {
-    match form_ahead(tokens, &passed) {
-        Form::Parenthesis => opened(alloc, tokens, dialect),
-        Form::Operator => prefixed(alloc, tokens, dialect),
-        Form::Literal => number(alloc, tokens),
-        Form::Truth => truth(alloc, tokens),
-        _ => {
-            let lvalue = lvalue(alloc, tokens, dialect, passed)?;
-            Ok(Expression::of_lvalue(lvalue))
-        }
+    if passed.is_some() {
+        return value(alloc, tokens, dialect, passed);
     }
+    operand(alloc, tokens, dialect)
+}
+
+/// Reads an operand, with the operators before it.
+#[cycle(expressions)]
+fn operand(
+    alloc: Global,
+    tokens: &mut Cursor<'_, Placed<Token>>,
+    dialect: Dialect,
+) -> Result<Expression, ReadFault>
+    ensures { Reads (SpellsPrefix dialect) (Ends prefix_level) tokens.old tokens.new result }
+{
+    if stands(tokens, Mark::OpenParenthesis) {
+        return opened(alloc, tokens, dialect);
+    }
+    if stands_unary(tokens) {
+        return prefixed(alloc, tokens, dialect);
+    }
+    if stands_literal(tokens) {
+        return number(alloc, tokens);
+    }
+    if stands_truth(tokens) {
+        return truth(alloc, tokens);
+    }
+    value(alloc, tokens, dialect, None)
+}
+
+/// Reads an lvalue as an operand, from a name on, if one was passed.
+#[cycle(expressions)]
+fn value(
+    alloc: Global,
+    tokens: &mut Cursor<'_, Placed<Token>>,
+    dialect: Dialect,
+    passed: Option<Named>,
+) -> Result<Expression, ReadFault>
+    ensures { Reads (SpellsValue dialect) (BeginsWithout is_selector) (from_name passed tokens.old) tokens.new result }
+{
+    let lvalue = lvalue(alloc, tokens, dialect, passed)?;
+    Ok(Expression::of_lvalue(lvalue))
 }
 
 /// Reads an operand that begins with an operator.
@@ -74,11 +106,10 @@ fn prefixed(
     tokens: &mut Cursor<'_, Placed<Token>>,
     dialect: Dialect,
 ) -> Result<Expression, ReadFault>
-    requires { form_ahead tokens.old ≡ form.Operator }
-    ensures { Reads (SpellsPrefix dialect) (Ends prefix_level) tokens.old tokens.new result }
+    ensures { Reads (SpellsPrefixed dialect) (Ends prefix_level) tokens.old tokens.new result }
 {
     let (place, operator) = read_one::<UnaryAt>(alloc, tokens)?;
-    let inner = operand(alloc, tokens, dialect, None)?;
+    let inner = operand(alloc, tokens, dialect)?;
     Ok(Expression::unary(alloc, place, operator, inner)?)
 }
 
@@ -89,16 +120,15 @@ fn opened(
     tokens: &mut Cursor<'_, Placed<Token>>,
     dialect: Dialect,
 ) -> Result<Expression, ReadFault>
-    requires { form_ahead tokens.old ≡ form.Parenthesis }
-    ensures { Reads (SpellsPrefix dialect) (Ends prefix_level) tokens.old tokens.new result }
+    ensures { Reads (SpellsOpened dialect) (Ends prefix_level) tokens.old tokens.new result }
 {
     let start = sign(tokens, Mark::OpenParenthesis)?;
     if stands_integer(tokens) {
         let (_, class) = target(alloc, tokens)?;
-        let inner = operand(alloc, tokens, dialect, None)?;
+        let inner = operand(alloc, tokens, dialect)?;
         return Ok(Expression::cast(alloc, start, class, inner)?);
     }
-    if dialect.is_full() && stands(tokens, Mark::Star) {
+    if stands_in_full(tokens, dialect, Mark::Star) {
         let base = Base::Pointed(start, pointed(alloc, tokens)?);
         let parts = selectors(alloc, tokens, dialect)?;
         return Ok(Expression::of_lvalue(Lvalue { base, parts }));

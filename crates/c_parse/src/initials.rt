@@ -29,7 +29,7 @@ pub fn zeros(alloc: Global, tokens: &mut Cursor<'_, Placed<Token>>) -> Result<()
 }
 
 /// Whether `true` or `false` is ahead.
-fn stands_truth(tokens: &Cursor<'_, Placed<Token>>) -> bool
+pub fn stands_truth(tokens: &Cursor<'_, Placed<Token>>) -> bool
     ensures { result ≡ begins is_truth tokens.now }
 {
     match tokens.peek() {

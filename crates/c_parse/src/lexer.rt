@@ -4,7 +4,7 @@ ghost use Rattle.std.specs.Prelude.{◌≡◌, ◌<◌, ◌≤◌, true, length,
 ghost use Rattle.std.specs.Option.{option_map};
 ghost use Rattle.hw_text.specs.Name.{is_digit};
 ghost use Rattle.hw_text.specs.Reading.{begins};
-ghost use Rattle.c_tree.specs.Words.{begins_name, continues_name};
+ghost use Rattle.c_tree.specs.Names.{begins_name, continues_name};
 ghost use Rattle.c_parse.specs.Keywords.{keyword_named};
 ghost use Rattle.c_parse.specs.Tokens.{name_length, word_or_name, word_token, literal_token, begins_comment, mark_token, token_at, HasTokens};
 

@@ -17,7 +17,6 @@ mod externals;
 mod flaw;
 mod flaw_laws;
 mod flaws;
-mod form;
 mod functions;
 mod headings;
 mod initials;

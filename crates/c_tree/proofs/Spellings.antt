@@ -3,7 +3,7 @@ use Rattle.std.proofs.Common.{◌≡◌, ℕ, Bool, true, false, List, Some, Non
 use Rattle.std.proofs.Math.Bool.{Bool-set}
 use Rattle.std.proofs.lemmas.Bool.{and_parts, false≢true}
 use Rattle.std.specs.Prelude.{◌&&◌, is_some, Option}
-use Rattle.c_tree.specs.Words.{is_identifier}
+use Rattle.c_tree.specs.Names.{is_identifier}
 use Rattle.c_tree.specs.Numerals.{begins_in, past_numeral, is_empty, numeral_type, is_numeral}
 use Rattle.c_tree.specs.declared.byte_class.ByteClass.TheVariants.{Digit}
 use Rattle.c_tree.specs.declared.integer_type.IntegerType.{IntegerType}

@@ -3,6 +3,7 @@ pub mod Dialects
 pub mod Expressions
 pub mod Items
 pub mod Literals
+pub mod Names
 pub mod Numerals
 pub mod Operators
 pub mod Printing
@@ -12,4 +13,3 @@ pub mod Statements
 pub mod Types
 pub mod Unplaced
 pub mod UnplacedUnits
-pub mod Words

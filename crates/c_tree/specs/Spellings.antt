@@ -1,6 +1,6 @@
 -- The names and literals that bytes spell (docs/formats/c.md).
 use Rattle.std.specs.Prelude.{◌≡◌, ℕ, Bool, true, false, List, codes, Option, Some, None, refl}
-use Rattle.c_tree.specs.Words.{is_identifier}
+use Rattle.c_tree.specs.Names.{is_identifier}
 use Rattle.c_tree.specs.Numerals.{is_numeral}
 use Rattle.c_tree.specs.declared.identifier.Identifier.{Identifier}
 use Rattle.c_tree.specs.declared.numeral.Numeral.{Numeral}

@@ -1,7 +1,7 @@
 //! Names of C.
 
 ghost use Rattle.std.specs.Prelude.{◌≡◌, true};
-ghost use Rattle.c_tree.specs.Words.{is_identifier};
+ghost use Rattle.c_tree.specs.Names.{is_identifier};
 
 use crate::name_bytes::is_identifier;
 use hw_text::{ByteList, NoMemory};
@@ -17,7 +17,7 @@ pub struct Identifier {
 #[tactic(auto, using(crate::proofs::Spellings::no_identifier, crate::proofs::Spellings::identifier_of_bytes))]
 impl Identifier {
     ghost use Rattle.std.specs.Prelude.{◌≡◌, true, IfOk};
-    ghost use Rattle.c_tree.specs.Words.{is_identifier};
+    ghost use Rattle.c_tree.specs.Names.{is_identifier};
     ghost use Rattle.c_tree.specs.Spellings.{identifier_of};
 
     /// The name that the bytes spell, where they spell one.

@@ -2,13 +2,13 @@
 
 ghost use Rattle.std.specs.Prelude.{◌≡◌};
 ghost use Rattle.std.specs.List.{list_all};
-ghost use Rattle.c_tree.specs.Words.{begins_name, continues_name, is_spelled_as_name, is_identifier};
+ghost use Rattle.c_tree.specs.Names.{begins_name, continues_name, is_spelled_as_name, is_identifier};
 
 use crate::word::is_word;
 use hw_text::{is_digit, is_letter};
 
 /// Whether the bytes are a name and no word of C.
-#[tactic(auto, unfolding(crate::specs::Words::is_identifier))]
+#[tactic(auto, unfolding(crate::specs::Names::is_identifier))]
 pub fn is_identifier(bytes: &[u8]) -> bool
     ensures { result ≡ is_identifier bytes.now }
 {

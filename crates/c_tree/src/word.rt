@@ -3,7 +3,7 @@
 ghost use Rattle.std.specs.Prelude.{◌≡◌, map};
 ghost use Rattle.std.specs.List.{list_any};
 ghost use Rattle.std.specs.Str.{bytes_eq};
-ghost use Rattle.c_tree.specs.Words.{is_word};
+ghost use Rattle.hw_types.specs.CWords.{is_c_word};
 
 /// The words of C: its keywords (ISO/IEC 9899:2011, 6.4.1), `bool` and its values, and the names of
 /// the integer types.
@@ -66,9 +66,9 @@ static WORDS: [&str; 55] = [
 ];
 
 /// Whether the bytes are a word of C, and so no name.
-#[tactic(auto, unfolding(crate::specs::Words::is_word))]
+#[tactic(auto, unfolding(hw_types::specs::CWords::is_c_word))]
 pub fn is_word(bytes: &[u8]) -> bool
-    ensures { result ≡ is_word bytes.now }
+    ensures { result ≡ is_c_word bytes.now }
 {
     is_one_of(bytes, &WORDS)
 }

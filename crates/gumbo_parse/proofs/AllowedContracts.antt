@@ -3,8 +3,9 @@ use Rattle.std.proofs.Common.{◌≡◌, ℕ, List, [], ◌∷◌, ◌++◌, cod
 use Rattle.std.specs.List.{flat_map}
 use Rattle.hw_text.specs.declared.place.Place.{Place}
 use Rattle.hw_text.specs.Name.{is_reserved}
-use Rattle.gumbo_parse.specs.declared.class.BaseType.{BaseType}
-use Rattle.gumbo_parse.specs.declared.class.BaseType.TheVariants.{Boolean}
+use Rattle.hw_text.specs.declared.base_type.BaseType.{BaseType}
+use Rattle.hw_text.specs.declared.base_type.BaseType.TheVariants.{Boolean}
+use Rattle.gumbo_parse.specs.declared.level.Level.TheVariants as level
 use Rattle.gumbo_parse.specs.declared.class.Class.{Class}
 use Rattle.gumbo_parse.specs.declared.class.Class.TheVariants.{Base, Model}
 use Rattle.gumbo_parse.specs.declared.class.ModelType.{ModelType}
@@ -21,7 +22,7 @@ use Rattle.gumbo_parse.specs.Allowed.{IsAllowed, AreAllowed}
 use Rattle.gumbo_parse.specs.Annex.{clause_word}
 use Rattle.gumbo_parse.specs.ContractTokens.{step_tokens, implementation_tokens, class_tokens, variable_tokens, description_tokens, clause_tokens, section_tokens, handler_tokens, compute_tokens, contract_tokens}
 use Rattle.gumbo_parse.specs.ExpressionTokens.{expression_tokens}
-use Rattle.gumbo_parse.specs.Values.{base_name}
+use Rattle.hw_text.specs.BaseTypes.{base_name}
 use Rattle.gumbo_parse.specs.Words.{word_named}
 use Rattle.gumbo_parse.proofs.Allowing.{on_ok, always, none, more, one, both}
 
@@ -30,7 +31,7 @@ unfolding word_named is_reserved
 package_allowed = refl
 
 base_name_allowed : (b : BaseType) → IsAllowed (token.Name (base_name b))
-unfolding word_named is_reserved
+unfolding word_named is_reserved base_name
 base_name_allowed Boolean = refl
 base_name_allowed _ = refl
 
@@ -64,12 +65,12 @@ module _ {X E : Type 0} (r : Result X E) where
       (more (token.Name h.port.name) (token.Mark mark.Colon ∷ clause_tokens h.first) name (more (token.Mark mark.Colon) (clause_tokens h.first) refl first)))
       (subst (λ (cs : List Clause). AreAllowed (flat_map clause_tokens cs)) same all)) rest
 
-pub clause_allowed : (c : Clause) → IsAllowed (token.Name c.name.name) → AreAllowed (description_tokens c.description) → AreAllowed (expression_tokens c.expression 0) → AreAllowed (clause_tokens c)
+pub clause_allowed : (c : Clause) → IsAllowed (token.Name c.name.name) → AreAllowed (description_tokens c.description) → AreAllowed (expression_tokens c.expression level.Implication) → AreAllowed (clause_tokens c)
 clause_allowed c name description inner =
     let head : List Token = token.Word (clause_word c.kind) ∷ token.Name c.name.name ∷ description_tokens c.description in
     let colon : List Token = token.Mark mark.Colon ∷ [] in
     let end : List Token = token.Mark mark.Semicolon ∷ [] in
-    let us : List Token = expression_tokens c.expression 0 in
+    let us : List Token = expression_tokens c.expression level.Implication in
     both (head ++ colon ++ us) end
     (both (head ++ colon) us
     (both head colon (more (token.Word (clause_word c.kind)) (token.Name c.name.name ∷ description_tokens c.description) refl (more (token.Name c.name.name) (description_tokens c.description) name description))

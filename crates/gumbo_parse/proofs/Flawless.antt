@@ -3,19 +3,14 @@ use Rattle.std.proofs.Common.{◌≡◌, ◌<◌, ℕ, ◌+◌, List, [], ◌∷
 use Rattle.std.proofs.Math.Seq.{take-suc}
 use Rattle.std.proofs.lemmas.Option.{slice_get_read, slice_get_within}
 use Rattle.hw_text.specs.declared.placed.Placed.{Placed}
+use Rattle.hw_reading.proofs.OpenBrackets as brackets
 use Rattle.gumbo_parse.specs.declared.flaw.Spot.{Spot}
 use Rattle.gumbo_parse.specs.declared.flaw.Spot.TheVariants.{Outside}
 use Rattle.gumbo_parse.specs.declared.token.Token.{Token}
-use Rattle.gumbo_parse.specs.Flaws.{open_behind_token, open_behind, spot_behind, spot_after, flaw_of, flaw_at}
-
-open-append : (n : ℕ) (xs ys : List (Placed Token)) → open_behind n (xs ++ ys) ≡ open_behind (open_behind n xs) ys
-open-append n [] ys = refl
-open-append n (x ∷ xs) ys = open-append (open_behind_token n x.token) xs ys
+use Rattle.gumbo_parse.specs.Flaws.{bracket_of, open_behind_token, open_behind, spot_behind, spot_after, flaw_of, flaw_at}
 
 pub open-more : (ts : List (Placed Token)) (i : ℕ) (t : Placed Token) → i < length ts → t ≡ get_or ts i t → open_behind 0 (take (i + 1) ts) ≡ open_behind_token (open_behind 0 (take i ts)) t.token
-open-more ts i t within here =
-    ap (λ (n : ℕ). open_behind 0 (take n ts)) (add-one i) ∙ ap (open_behind 0) (take-suc ts i t within) ∙ open-append 0 (take i ts) (get_or ts i t ∷ []) ∙
-    ap (λ (x : Placed Token). open_behind_token (open_behind 0 (take i ts)) x.token) (sym here)
+open-more = brackets.open-more bracket_of
 
 pub spot-append : (s : Spot) (xs ys : List (Placed Token)) → spot_after s (xs ++ ys) ≡ spot_after (spot_after s xs) ys
 spot-append s [] ys = refl

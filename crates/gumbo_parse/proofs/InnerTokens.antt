@@ -1,7 +1,9 @@
 -- No token of an expression begins or ends a clause.
-use Rattle.std.proofs.Common.{◌≡◌, ℕ, ◌+◌, Bool, true, false, nat_lt, if◌then◌else◌, List, [], ◌∷◌, ◌++◌, map, refl, sym, subst}
+use Rattle.std.proofs.Common.{◌≡◌, ℕ, ◌+◌, Bool, true, false, if◌then◌else◌, List, [], ◌∷◌, ◌++◌, map, refl, sym, subst}
 use Rattle.std.proofs.lemmas.Bool.{false≢true}
 use Rattle.std.specs.List.{flat_map}
+use Rattle.gumbo_parse.specs.declared.level.Level.TheVariants as level
+use Rattle.gumbo_parse.specs.declared.level.Level.{Level}
 use Rattle.gumbo_parse.specs.declared.expression.Bound.{Bound}
 use Rattle.gumbo_parse.specs.declared.expression.Expression.{Expression}
 use Rattle.gumbo_parse.specs.declared.expression.Expression.TheVariants as expression
@@ -23,7 +25,8 @@ use Rattle.gumbo_parse.specs.declared.word.Word.TheVariants as word
 use Rattle.gumbo_parse.specs.ExpressionTokens.{Written, in_parentheses, unary_token, binary_token, truth_word, sign_tokens, bound_tokens, port_tokens, quantification_tokens, expression_tokens, selector_tokens}
 use Rattle.gumbo_parse.specs.FarTokens.{stays_in_clause}
 use Rattle.gumbo_parse.specs.Flaws.{spot_behind}
-use Rattle.gumbo_parse.specs.Operators.{unary_level, binary_level, left_level, right_level, test_word}
+use Rattle.gumbo_parse.specs.Levels.{unary_level, binary_level, left_level, right_level, is_looser}
+use Rattle.gumbo_parse.specs.Operators.{test_word}
 use Rattle.gumbo_parse.proofs.ExpressionInduction.{OfEach, of_each_expression}
 use Rattle.gumbo_parse.proofs.TokensOfExpressions.{tokens-Number, tokens-Truth, tokens-Value, tokens-Before, tokens-Test, tokens-MustSend, tokens-Unary, tokens-Binary, tokens-Quantified, tokens-Field, tokens-Index}
 
@@ -90,12 +93,12 @@ infix_token binary.Implies = (refl, tt)
 infix_token _ = (refl, tt)
 
 abbrev InEach : Expression → Type 0
-InEach x = (wanted : ℕ) → Inner (expression_tokens x wanted)
+InEach x = (wanted : Level) → Inner (expression_tokens x wanted)
 
 abbrev InPart : Selector → Type 0
 InPart s = Inner (selector_tokens s)
 
-so : (f g : Written) → f ≡ g → ((wanted : ℕ) → Inner (g wanted)) → (wanted : ℕ) → Inner (f wanted)
+so : (f g : Written) → f ≡ g → ((wanted : Level) → Inner (g wanted)) → (wanted : Level) → Inner (f wanted)
 so f g e a wanted = subst (λ (w : Written). Inner (w wanted)) (sym e) (a wanted)
 
 part_tokens : (ps : List Selector) → OfEach InPart ps → OfEach Inner (map selector_tokens ps)
@@ -114,22 +117,22 @@ expression_inner = of_each_expression InEach InPart (record {
   test = λ at what x. so (expression_tokens (expression.Test at what x)) (λ wanted. port_tokens (test_word what) x) (tokens-Test at what x) (λ wanted. a_test what x);
   must_send = λ at x start sent inner.
       so (expression_tokens (expression.MustSend at x start sent))
-      (λ wanted. token.Word word.MustSend ∷ token.Mark mark.OpenParenthesis ∷ token.Name x.name ∷ token.Mark mark.Comma ∷ expression_tokens sent 0 ++ token.Mark mark.CloseParenthesis ∷ []) (tokens-MustSend at x start sent)
-      (λ wanted. (refl, (refl, (refl, (refl, both (expression_tokens sent 0) (token.Mark mark.CloseParenthesis ∷ []) (inner 0) (refl, tt))))));
+      (λ wanted. token.Word word.MustSend ∷ token.Mark mark.OpenParenthesis ∷ token.Name x.name ∷ token.Mark mark.Comma ∷ expression_tokens sent level.Implication ++ token.Mark mark.CloseParenthesis ∷ []) (tokens-MustSend at x start sent)
+      (λ wanted. (refl, (refl, (refl, (refl, both (expression_tokens sent level.Implication) (token.Mark mark.CloseParenthesis ∷ []) (inner level.Implication) (refl, tt))))));
   unary = λ at o x inner.
-      so (expression_tokens (expression.Unary at o x)) (λ wanted. if nat_lt (unary_level o) wanted then in_parentheses (unary_token o ∷ expression_tokens x (unary_level o)) else unary_token o ∷ expression_tokens x (unary_level o))
-      (tokens-Unary at o x) (λ wanted. grouped (nat_lt (unary_level o) wanted) (unary_token o ∷ expression_tokens x (unary_level o)) (prefix o (expression_tokens x (unary_level o)) (inner (unary_level o))));
+      so (expression_tokens (expression.Unary at o x)) (λ wanted. if is_looser (unary_level o) wanted then in_parentheses (unary_token o ∷ expression_tokens x (unary_level o)) else unary_token o ∷ expression_tokens x (unary_level o))
+      (tokens-Unary at o x) (λ wanted. grouped (is_looser (unary_level o) wanted) (unary_token o ∷ expression_tokens x (unary_level o)) (prefix o (expression_tokens x (unary_level o)) (inner (unary_level o))));
   binary = λ at o l r left right.
       let us : List Token = expression_tokens l (left_level o) ++ binary_token o ∷ [] ++ expression_tokens r (right_level o) in
-      so (expression_tokens (expression.Binary at o l r)) (λ wanted. if nat_lt (binary_level o) wanted then in_parentheses us else us) (tokens-Binary at o l r)
-      (λ wanted. grouped (nat_lt (binary_level o) wanted) us
+      so (expression_tokens (expression.Binary at o l r)) (λ wanted. if is_looser (binary_level o) wanted then in_parentheses us else us) (tokens-Binary at o l r)
+      (λ wanted. grouped (is_looser (binary_level o) wanted) us
       (both (expression_tokens l (left_level o) ++ binary_token o ∷ []) (expression_tokens r (right_level o))
       (both (expression_tokens l (left_level o)) (binary_token o ∷ []) (left (left_level o)) (infix_token o)) (right (right_level o))));
   quantified = λ at all_of x from below start body inner.
-      let us : List Token = quantification_tokens all_of x from below ++ expression_tokens body 0 in
+      let us : List Token = quantification_tokens all_of x from below ++ expression_tokens body level.Implication in
       so (expression_tokens (expression.Quantified at all_of x from below start body)) (λ wanted. in_parentheses us) (tokens-Quantified at all_of x from below start body)
-      (λ wanted. enclosed us (both (quantification_tokens all_of x from below) (expression_tokens body 0) (heading all_of x from below) (inner 0)));
+      (λ wanted. enclosed us (both (quantification_tokens all_of x from below) (expression_tokens body level.Implication) (heading all_of x from below) (inner level.Implication)));
   field = λ x. subst Inner (sym (tokens-Field x)) (refl, (refl, tt));
   index = λ start x inner.
-      subst Inner (sym (tokens-Index start x)) (refl, both (expression_tokens x 0) (token.Mark mark.CloseBracket ∷ []) (inner 0) (refl, tt));
+      subst Inner (sym (tokens-Index start x)) (refl, both (expression_tokens x level.Implication) (token.Mark mark.CloseBracket ∷ []) (inner level.Implication) (refl, tt));
 })

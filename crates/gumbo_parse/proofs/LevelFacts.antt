@@ -1,6 +1,9 @@
 -- With which tokens expressions of a level begin, go on and end.
-use Rattle.std.proofs.Common.{◌≡◌, refl, subst, ℕ, List, [], ◌∷◌, ◌++◌, codes, true}
+use Rattle.std.proofs.Common.{◌≡◌, refl, subst, List, [], ◌∷◌, ◌++◌, true}
 use Rattle.hw_text.specs.Reading.{begins}
+use Rattle.hw_reading.specs.Shapes.{shapes_of}
+use Rattle.gumbo_parse.specs.declared.shape.Shape.{Shape}
+use Rattle.gumbo_parse.specs.declared.shape.Shape.TheVariants as shape
 use Rattle.gumbo_parse.specs.declared.level.Level.{Level}
 use Rattle.gumbo_parse.specs.declared.level.Level.TheVariants as level
 use Rattle.gumbo_parse.specs.declared.level.Form.TheVariants as form
@@ -8,12 +11,10 @@ use Rattle.gumbo_parse.specs.declared.mark.Mark.TheVariants as mark
 use Rattle.gumbo_parse.specs.declared.word.Word.TheVariants as word
 use Rattle.gumbo_parse.specs.Grammar.{truths, tests}
 use Rattle.gumbo_parse.specs.Levels.{next, right, form_of, infixes, prefixes, part_shapes, goes_on, Ends}
-use Rattle.gumbo_parse.specs.Marks.{mark_spelling}
-use Rattle.gumbo_parse.specs.Words.{word_spelling}
-use Rattle.gumbo_parse.specs.Values.{Tokens, one_of, Without, is_disjoint, name_shapes, texts}
+use Rattle.gumbo_parse.specs.Values.{Tokens, one_of, Without, is_disjoint, name_shapes}
 use Rattle.gumbo_parse.proofs.Shapes.{without-left, without-right}
 
-goes-is : (l : Level) → goes_on l ≡ texts (infixes l) ++ goes_on (next l)
+goes-is : (l : Level) → goes_on l ≡ shapes_of (infixes l) ++ goes_on (next l)
 goes-is level.Implication = refl
 goes-is level.Disjunction = refl
 goes-is level.Conjunction = refl
@@ -26,11 +27,11 @@ goes-is level.Operand = refl
 
 -- what ends an expression of a level ends one of the next
 pub ends-next : (l : Level) (m : Tokens) → Ends l m → Ends (next l) m
-ends-next l m ends = without-right (texts (infixes l)) (goes_on (next l)) m (subst (λ s. Without s m) (goes-is l) ends)
+ends-next l m ends = without-right (shapes_of (infixes l)) (goes_on (next l)) m (subst (λ s. Without s m) (goes-is l) ends)
 
 -- and is no operator of the level
-pub ends-infix : (l : Level) (m : Tokens) → Ends l m → Without (texts (infixes l)) m
-ends-infix l m ends = without-left (texts (infixes l)) (goes_on (next l)) m (subst (λ s. Without s m) (goes-is l) ends)
+pub ends-infix : (l : Level) (m : Tokens) → Ends l m → Without (shapes_of (infixes l)) m
+ends-infix l m ends = without-left (shapes_of (infixes l)) (goes_on (next l)) m (subst (λ s. Without s m) (goes-is l) ends)
 
 pub ends-right : (l : Level) (m : Tokens) → Ends l m → Ends (right l) m
 ends-right level.Implication m ends = ends
@@ -55,7 +56,7 @@ ends-operand level.Sign is m ends = cc
 ends-operand level.Operand is m ends = ends
 
 -- no operator of a level is a token with which a tighter expression goes on
-pub apart-next : (l : Level) → is_disjoint (texts (infixes l)) (goes_on (next l)) ≡ true
+pub apart-next : (l : Level) → is_disjoint (shapes_of (infixes l)) (goes_on (next l)) ≡ true
 apart-next level.Implication = refl
 apart-next level.Disjunction = refl
 apart-next level.Conjunction = refl
@@ -66,7 +67,7 @@ apart-next level.Product = refl
 apart-next level.Sign = refl
 apart-next level.Operand = refl
 
-pub apart-right : (l : Level) → form_of l ≡ form.Chain → is_disjoint (texts (infixes l)) (goes_on (right l)) ≡ true
+pub apart-right : (l : Level) → form_of l ≡ form.Chain → is_disjoint (shapes_of (infixes l)) (goes_on (right l)) ≡ true
 apart-right level.Implication is = cc
 apart-right level.Disjunction is = refl
 apart-right level.Conjunction is = refl
@@ -78,35 +79,35 @@ apart-right level.Sign is = refl
 apart-right level.Operand is = refl
 
 -- the tokens with which operands begin
-abbrev pub group_starts : List (List ℕ)
-group_starts = mark_spelling mark.OpenParenthesis ∷ []
+abbrev pub group_starts : List Shape
+group_starts = shape.Mark mark.OpenParenthesis ∷ []
 
-abbrev pub send_starts : List (List ℕ)
-send_starts = (word_spelling word.MustSend ∷ []) ++ group_starts
+abbrev pub send_starts : List Shape
+send_starts = (shape.Word word.MustSend ∷ []) ++ group_starts
 
-abbrev pub before_starts : List (List ℕ)
-before_starts = (word_spelling word.In ∷ []) ++ send_starts
+abbrev pub before_starts : List Shape
+before_starts = (shape.Word word.In ∷ []) ++ send_starts
 
-abbrev pub value_starts : List (List ℕ)
+abbrev pub value_starts : List Shape
 value_starts = name_shapes ++ before_starts
 
-abbrev pub test_starts : List (List ℕ)
-test_starts = texts tests ++ value_starts
+abbrev pub test_starts : List Shape
+test_starts = shapes_of tests ++ value_starts
 
-abbrev pub truth_starts : List (List ℕ)
-truth_starts = texts truths ++ test_starts
+abbrev pub truth_starts : List Shape
+truth_starts = shapes_of truths ++ test_starts
 
-abbrev pub operand_starts : List (List ℕ)
-operand_starts = (codes "INT" ∷ []) ++ truth_starts
+abbrev pub operand_starts : List Shape
+operand_starts = (shape.Number ∷ []) ++ truth_starts
 
-abbrev pub sign_starts : List (List ℕ)
-sign_starts = texts (prefixes level.Sign) ++ operand_starts
+abbrev pub sign_starts : List Shape
+sign_starts = shapes_of (prefixes level.Sign) ++ operand_starts
 
-abbrev pub negation_starts : List (List ℕ)
-negation_starts = texts (prefixes level.Negation) ++ sign_starts
+abbrev pub negation_starts : List Shape
+negation_starts = shapes_of (prefixes level.Negation) ++ sign_starts
 
 -- the tokens with which expressions of a level begin
-abbrev pub starts : Level → List (List ℕ)
+abbrev pub starts : Level → List Shape
 starts level.Implication = negation_starts
 starts level.Disjunction = negation_starts
 starts level.Conjunction = negation_starts
@@ -117,7 +118,7 @@ starts level.Product = sign_starts
 starts level.Sign = sign_starts
 starts level.Operand = operand_starts
 
-pub starts-is : (l : Level) → starts l ≡ texts (prefixes l) ++ starts (next l)
+pub starts-is : (l : Level) → starts l ≡ shapes_of (prefixes l) ++ starts (next l)
 starts-is level.Implication = refl
 starts-is level.Disjunction = refl
 starts-is level.Conjunction = refl
@@ -129,7 +130,7 @@ starts-is level.Sign = refl
 starts-is level.Operand = refl
 
 -- no expression of the next level begins with an operator that stands before one of a level
-pub apart-prefix : (l : Level) → form_of l ≡ form.Prefix → is_disjoint (starts (next l)) (texts (prefixes l)) ≡ true
+pub apart-prefix : (l : Level) → form_of l ≡ form.Prefix → is_disjoint (starts (next l)) (shapes_of (prefixes l)) ≡ true
 apart-prefix level.Implication is = refl
 apart-prefix level.Disjunction is = refl
 apart-prefix level.Conjunction is = refl

@@ -4,6 +4,7 @@ use Rattle.hw_text.specs.Language.{One, ◌⋅◌, Made, ◌∣◌, Maybe, Each}
 use Rattle.hw_text.specs.Reading.{begins, Begins, Leaves}
 use Rattle.hw_text.proofs.Reading.{begun, then-begins}
 use Rattle.hw_text.specs.declared.place.Place.{Place}
+use Rattle.hw_reading.specs.Shapes.{shapes_of}
 use Rattle.gumbo_parse.specs.declared.expression.Expression.{Expression}
 use Rattle.gumbo_parse.specs.declared.expression.Expression.TheVariants.{Unary}
 use Rattle.gumbo_parse.specs.declared.level.Level.{Level}
@@ -13,7 +14,7 @@ use Rattle.gumbo_parse.specs.declared.operator.BinaryOperator.{BinaryOperator}
 use Rattle.gumbo_parse.specs.declared.operator.UnaryOperator.{UnaryOperator}
 use Rattle.gumbo_parse.specs.Grammar.{Spells, chain, pair, prefixed, plain, operand, SpellsOperation, operation, SpellsOperations, no_operations, operations, SpellsOptional, no_operation, one_operation, SpellsOperand, chained, paired, operation_of}
 use Rattle.gumbo_parse.specs.Levels.{next, right, form_of, infixes, prefixes, Ends}
-use Rattle.gumbo_parse.specs.Values.{Tokens, one_of, one_listed, texts}
+use Rattle.gumbo_parse.specs.Values.{Tokens, one_of, one_listed}
 use Rattle.gumbo_parse.proofs.BoundForms.{listed-begins}
 use Rattle.gumbo_parse.proofs.LevelFacts.{starts, starts-is, starts-operand}
 use Rattle.gumbo_parse.proofs.OperandForms.{operand-begins}
@@ -102,14 +103,14 @@ module _ (l : Level) where
   operation-shut : (p : (Place × BinaryOperator) × Expression) (w : Tokens) → (One (one_listed (infixes l)) ⋅ Spells (right l)) p w → SpellsOperation l (operation_of p) w
   operation-shut p w text = operation l p.0 p.1 text.0 text.1 (operation_of p) w refl text.2 text.3 text.4
 
-  pub unary-begins : Begins (one_of (texts (prefixes l))) true (UnaryForm l)
+  pub unary-begins : Begins (one_of (shapes_of (prefixes l))) true (UnaryForm l)
   unary-begins e w m made =
-      then-begins (one_of (texts (prefixes l))) true (One (one_listed (prefixes l))) (Spells l) (listed-begins (prefixes l)) made.0 w m made.2
+      then-begins (one_of (shapes_of (prefixes l))) true (One (one_listed (prefixes l))) (Spells l) (listed-begins (prefixes l)) made.0 w m made.2
 
-  pub operation-begins : Begins (one_of (texts (infixes l))) true (SpellsOperation l)
+  pub operation-begins : Begins (one_of (shapes_of (infixes l))) true (SpellsOperation l)
   operation-begins o w m text =
       let made = operation-opened o w text in
-      then-begins (one_of (texts (infixes l))) true (One (one_listed (infixes l))) (Spells (right l)) (listed-begins (infixes l)) made.0 w m made.2
+      then-begins (one_of (shapes_of (infixes l))) true (One (one_listed (infixes l))) (Spells (right l)) (listed-begins (infixes l)) made.0 w m made.2
 
   module _ (before : Tokens) where
     pub chain_opening : form_of l ≡ form.Chain → Leaves (Spells l) (Ends l) before before chained_of (Spells (next l) ⋅ Each (SpellsOperation l))
@@ -127,7 +128,7 @@ module _ (l : Level) where
 -- what an expression of the next level begins with an expression of the level may begin with
 starts-up : (l : Level) (m : Tokens) → begins (one_of (starts (next l))) m ≡ true → begins (one_of (starts l)) m ≡ true
 starts-up l m is =
-    subst (λ s. begins (one_of s) m ≡ true) (sym (starts-is l)) (begins-more (texts (prefixes l)) (starts (next l)) m is)
+    subst (λ s. begins (one_of s) m ≡ true) (sym (starts-is l)) (begins-more (shapes_of (prefixes l)) (starts (next l)) m is)
 
 -- how the texts of a level begin
 pub spells-begins : (l : Level) → Begins (one_of (starts l)) true (Spells l)
@@ -137,7 +138,7 @@ spells-begins l e w m (pair k x o us vs d ts form is split first rest) =
     starts-up l (w ++ m) (ap (λ (u : Tokens). begins (one_of (starts (next l))) (u ++ m)) split ∙ ap (begins (one_of (starts (next l)))) (append_assoc us vs m) ∙ spells-begins (next l) x us (vs ++ m) first)
 spells-begins l e w m (prefixed k o x os us d ts form is split first rest) =
     subst (λ s. begins (one_of s) (w ++ m) ≡ true) (sym (starts-is l))
-    (begins-left (One (one_listed (prefixes l)) ⋅ Spells l) (texts (prefixes l)) (starts (next l))
-    (then-begins (one_of (texts (prefixes l))) true (One (one_listed (prefixes l))) (Spells l) (listed-begins (prefixes l))) (o, x) w m (os, us, split, first, rest))
+    (begins-left (One (one_listed (prefixes l)) ⋅ Spells l) (shapes_of (prefixes l)) (starts (next l))
+    (then-begins (one_of (shapes_of (prefixes l))) true (One (one_listed (prefixes l))) (Spells l) (listed-begins (prefixes l))) (o, x) w m (os, us, split, first, rest))
 spells-begins l e w m (plain k d ts form text) = starts-up l (w ++ m) (spells-begins (next l) e w m text)
 spells-begins l e w m (operand k d ts form text) = starts-operand l form (w ++ m) (operand-begins e w m text)

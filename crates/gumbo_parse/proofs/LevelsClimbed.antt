@@ -1,18 +1,19 @@
 -- Expressions of a level, where a looser one is wanted, and with an operation more behind them.
-use Rattle.std.proofs.Common.{◌≡◌, ℕ, zero, suc, ◌+◌, ◌-◌, ◌≤◌, List, [], ◌∷◌, ◌++◌, None, refl, sym, ap, ◌∙◌, subst, append_assoc, arith}
+use Rattle.std.proofs.Common.{◌≡◌, ℕ, zero, suc, ◌+◌, ◌-◌, ◌≤◌, List, [], ◌∷◌, ◌++◌, None, false, refl, sym, ap, ◌∙◌, subst, append_assoc, arith}
+use Rattle.std.proofs.lemmas.Bool.{ltb-false}
 use Rattle.std.proofs.lemmas.List.{append-nil}
 use Rattle.gumbo_parse.specs.declared.expression.Expression.{Expression}
 use Rattle.gumbo_parse.specs.declared.level.Level.{Level}
 use Rattle.gumbo_parse.specs.declared.level.Level.TheVariants as level
 use Rattle.gumbo_parse.specs.declared.level.Form.TheVariants as form
 use Rattle.gumbo_parse.specs.declared.operation.Operation.{Operation}
-use Rattle.gumbo_parse.specs.Grammar.{Spells, SpellsOperation, SpellsOperations, joined, chained}
+use Rattle.gumbo_parse.specs.Grammar.{Spells, SpellsOperation, SpellsOperations, applied, chained}
 use Rattle.gumbo_parse.specs.Grammar as grammar
-use Rattle.gumbo_parse.specs.Levels.{next, form_of}
+use Rattle.gumbo_parse.specs.Levels.{next, form_of, height, is_looser}
 use Rattle.gumbo_parse.specs.Values.{Tokens}
 
 -- the level that is so many levels tighter than the loosest
-abbrev pub level_at : ℕ → Level
+abbrev level_at : ℕ → Level
 level_at zero = level.Implication
 level_at (suc n) = next (level_at n)
 
@@ -46,23 +47,42 @@ climbed : (k n : ℕ) (x : Expression) (ts : Tokens) → Spells (level_at (above
 climbed zero n x ts text = text
 climbed (suc k) n x ts text = climbed k n x ts (looser (level_at (above k n)) x ts text)
 
--- what stands at a level stands where one that is no tighter is wanted
-pub loose : (own wanted : ℕ) (x : Expression) (ts : Tokens) → wanted ≤ own → Spells (level_at own) x ts → Spells (level_at wanted) x ts
-loose own wanted x ts within text =
+loose_at : (own wanted : ℕ) (x : Expression) (ts : Tokens) → wanted ≤ own → Spells (level_at own) x ts → Spells (level_at wanted) x ts
+loose_at own wanted x ts within text =
     let is : own ≡ above (own - wanted) wanted = omega (arith, above-is (own - wanted) wanted) in
     climbed (own - wanted) wanted x ts (subst (λ (n : ℕ). Spells (level_at n) x ts) is text)
 
-tightest : (l : Level) → next (next (next (next (next (next (next (next l))))))) ≡ level.Operand
+tightest : (wanted : Level) → is_looser level.Operand wanted ≡ false
 tightest level.Implication = refl
 tightest _ = refl
 
--- an operand stands at each level
-pub operand_at : (wanted : ℕ) (x : Expression) (ts : Tokens) → Spells level.Operand x ts → Spells (level_at wanted) x ts
-operand_at wanted x ts text = climbed 8 wanted x ts (subst (λ (l : Level). Spells l x ts) (sym (tightest (level_at wanted))) text)
+depth-is : (l : Level) → level_at (8 - height l) ≡ l
+depth-is level.Implication = refl
+depth-is _ = refl
 
-chained-more : (x : Expression) (os : List Operation) (o : Operation) → chained x (os ++ o ∷ []) ≡ joined (chained x os) o
+bounded : (l : Level) → height l ≤ 8
+bounded level.Implication = omega arith
+bounded _ = omega arith
+
+-- what stands at a level stands where one that is no tighter is wanted
+pub loose : (own wanted : Level) (x : Expression) (ts : Tokens) → is_looser own wanted ≡ false → Spells own x ts → Spells wanted x ts
+loose own wanted x ts is text =
+    subst (λ (l : Level). Spells l x ts) (depth-is wanted)
+    (loose_at (8 - height own) (8 - height wanted) x ts (omega (arith, bounded own, bounded wanted, ltb-false (height wanted) (height own) is))
+    (subst (λ (l : Level). Spells l x ts) (sym (depth-is own)) text))
+
+-- no level is looser than that of whole expressions
+pub loosest : (own : Level) → is_looser own level.Implication ≡ false
+loosest level.Implication = refl
+loosest _ = refl
+
+-- an operand stands at each level
+pub operand_at : (wanted : Level) (x : Expression) (ts : Tokens) → Spells level.Operand x ts → Spells wanted x ts
+operand_at wanted x ts text = loose level.Operand wanted x ts (tightest wanted) text
+
+chained-more : (x : Expression) (os : List Operation) (o : Operation) → chained x (os ++ o ∷ []) ≡ applied (chained x os) o
 chained-more x [] o = refl
-chained-more x (p ∷ os) o = chained-more (joined x p) os o
+chained-more x (p ∷ os) o = chained-more (applied x p) os o
 
 -- one operation more behind others
 operations-more : (l : Level) (os : List Operation) (o : Operation) (us vs : Tokens) → SpellsOperations l os us → SpellsOperation l o vs → SpellsOperations l (os ++ o ∷ []) (us ++ vs)
@@ -76,9 +96,9 @@ operations-more l os o us vs (grammar.operations k p ps ws xs all ts is split fi
     (grammar.operations l p (ps ++ o ∷ []) ws (xs ++ vs) (p ∷ (ps ++ o ∷ [])) ((ws ++ xs) ++ vs) refl (append_assoc ws xs vs) first (operations-more l ps o xs vs others more)))
 
 -- one operation more behind a chain
-pub chain-more : (l : Level) (x : Expression) (us : Tokens) (o : Operation) (vs : Tokens) → form_of l ≡ form.Chain → Spells l x us → SpellsOperation l o vs → Spells l (joined x o) (us ++ vs)
+pub chain-more : (l : Level) (x : Expression) (us : Tokens) (o : Operation) (vs : Tokens) → form_of l ≡ form.Chain → Spells l x us → SpellsOperation l o vs → Spells l (applied x o) (us ++ vs)
 chain-more l x us o vs is (grammar.chain k y os ws xs e ts kind made split first others) more =
-    grammar.chain l y (os ++ o ∷ []) ws (xs ++ vs) (joined x o) (us ++ vs) is (ap (λ (w : Expression). joined w o) made ∙ sym (chained-more y os o))
+    grammar.chain l y (os ++ o ∷ []) ws (xs ++ vs) (applied x o) (us ++ vs) is (ap (λ (w : Expression). applied w o) made ∙ sym (chained-more y os o))
     (ap (λ (w : Tokens). w ++ vs) split ∙ append_assoc ws xs vs) first (operations-more l os o xs vs others more)
 chain-more l x us o vs is (grammar.pair k y p ws xs e ts kind made split first other) more = absurd (cc (sym is ∙ kind))
 chain-more l x us o vs is (grammar.prefixed k p y ws xs e ts kind made split sign first) more = absurd (cc (sym is ∙ kind))

@@ -1,9 +1,7 @@
 pub mod AllowedContracts
 pub mod AllowedExpressions
 pub mod Allowing
-pub mod BothParts
 pub mod BoundForms
-pub mod Choices
 pub mod ClassForms
 pub mod ClauseForms
 pub mod ExpressionInduction
@@ -15,10 +13,8 @@ pub mod LeafForms
 pub mod LevelFacts
 pub mod LevelForms
 pub mod LevelsClimbed
-pub mod Lists
 pub mod Lower
 pub mod NumberTokens
-pub mod OneReading
 pub mod OperandForms
 pub mod OperandSteps
 pub mod OtherNames
@@ -32,15 +28,12 @@ pub mod RespelledContracts
 pub mod RespelledExpressions
 pub mod RespelledOperands
 pub mod RespelledPieces
-pub mod Runs
 pub mod Samples
 pub mod SectionForms
 pub mod SectionSamples
 pub mod Shapes
 pub mod ShortClauses
-pub mod Standing
 pub mod StartedReads
-pub mod Steps
 pub mod SymbolTokens
 pub mod TokensOfExpressions
 pub mod UnplacedExpressions

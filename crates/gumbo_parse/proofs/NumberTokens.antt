@@ -12,8 +12,8 @@ use Rattle.hw_text.specs.Text.{is_white, begins_with, run_length, decimal, skipp
 use Rattle.hw_text.specs.declared.bytes.ByteClass.TheVariants.{Digits}
 use Rattle.gumbo_parse.specs.declared.token.Token.TheVariants as token
 use Rattle.gumbo_parse.specs.Tokens.{number_token, token_at}
-use Rattle.gumbo_parse.proofs.Runs.{Stops, run-over}
-use Rattle.gumbo_parse.proofs.Standing.{StandsBefore}
+use Rattle.hw_reading.proofs.Runs.{Stops, run-over}
+use Rattle.gumbo_parse.proofs.Written.{StandsBefore}
 
 no-letter : (b : ℕ) → is_digit b ≡ true → is_letter b ≡ false
 no-letter b h = grind (arith, nat_tests)

@@ -1,16 +1,17 @@
 -- The productions of operands, each as its parts.
-use Rattle.std.proofs.Common.{◌∙◌, refl, ap, [], ◌∷◌, ◌++◌, codes, true, inl, inr}
+use Rattle.std.proofs.Common.{◌∙◌, refl, ap, [], ◌∷◌, ◌++◌, true, inl, inr}
 use Rattle.hw_text.specs.Language.{◌⋅◌, ◌∣◌}
 use Rattle.hw_text.specs.Reading.{Begins}
 use Rattle.hw_text.proofs.Reading.{then-begins, made-begins}
+use Rattle.hw_reading.specs.Shapes.{shapes_of}
+use Rattle.gumbo_parse.specs.declared.shape.Shape.TheVariants as shape
 use Rattle.gumbo_parse.specs.declared.expression.Expression.{Expression}
 use Rattle.gumbo_parse.specs.declared.mark.Mark.TheVariants as mark
 use Rattle.gumbo_parse.specs.declared.word.Word.TheVariants as word
 use Rattle.gumbo_parse.specs.Grammar.{Sign, Name, tests, truths, SpellsNumber, SpellsTruth, SpellsTest, SpellsIn, SpellsAsked, SpellsOperand, number, truth, test_alone, value, before, must_send, parenthesised, SpellsValue, value_of, SpellsBefore, before_of, SpellsMustSend, must_send_of, SpellsParenthesised, grouped_of, SpellsSent, SpellsGroup, SpellsParts}
-use Rattle.gumbo_parse.specs.Words.{word_spelling}
-use Rattle.gumbo_parse.specs.Values.{Tokens, one_of, name_shapes, texts}
+use Rattle.gumbo_parse.specs.Values.{Tokens, one_of, name_shapes}
 use Rattle.gumbo_parse.proofs.BoundForms.{sign-begins, name-begins}
-use Rattle.gumbo_parse.proofs.Choices.{either-starts}
+use Rattle.gumbo_parse.proofs.Shapes.{either-starts}
 use Rattle.gumbo_parse.proofs.LeafForms.{number_form-begins, truth-begins, test-begins, in-begins, asked-begins}
 use Rattle.gumbo_parse.proofs.LevelFacts.{group_starts, send_starts, before_starts, value_starts, test_starts, truth_starts, operand_starts}
 
@@ -57,32 +58,32 @@ shut e w (inr (inr (inr (inr (inr (inr made)))))) =
 pub value-begins : Begins (one_of name_shapes) true SpellsValue
 value-begins = made-begins (one_of name_shapes) true (Name ⋅ SpellsParts) value_of (then-begins (one_of name_shapes) true Name SpellsParts name-begins)
 
-pub before-begins : Begins (one_of (word_spelling word.In ∷ [])) true SpellsBefore
-before-begins = made-begins (one_of (word_spelling word.In ∷ [])) true (SpellsIn ⋅ SpellsParts) before_of
-    (then-begins (one_of (word_spelling word.In ∷ [])) true SpellsIn SpellsParts in-begins)
+pub before-begins : Begins (one_of (shape.Word word.In ∷ [])) true SpellsBefore
+before-begins = made-begins (one_of (shape.Word word.In ∷ [])) true (SpellsIn ⋅ SpellsParts) before_of
+    (then-begins (one_of (shape.Word word.In ∷ [])) true SpellsIn SpellsParts in-begins)
 
-pub send-begins : Begins (one_of (word_spelling word.MustSend ∷ [])) true SpellsMustSend
-send-begins = made-begins (one_of (word_spelling word.MustSend ∷ [])) true (SpellsAsked ⋅ SpellsSent ⋅ Sign mark.CloseParenthesis) must_send_of
-    (then-begins (one_of (word_spelling word.MustSend ∷ [])) true SpellsAsked (SpellsSent ⋅ Sign mark.CloseParenthesis) asked-begins)
+pub send-begins : Begins (one_of (shape.Word word.MustSend ∷ [])) true SpellsMustSend
+send-begins = made-begins (one_of (shape.Word word.MustSend ∷ [])) true (SpellsAsked ⋅ SpellsSent ⋅ Sign mark.CloseParenthesis) must_send_of
+    (then-begins (one_of (shape.Word word.MustSend ∷ [])) true SpellsAsked (SpellsSent ⋅ Sign mark.CloseParenthesis) asked-begins)
 
 pub parenthesised-begins : Begins (one_of group_starts) true SpellsParenthesised
 parenthesised-begins = made-begins (one_of group_starts) true (Sign mark.OpenParenthesis ⋅ SpellsGroup ⋅ Sign mark.CloseParenthesis) grouped_of
     (then-begins (one_of group_starts) true (Sign mark.OpenParenthesis) (SpellsGroup ⋅ Sign mark.CloseParenthesis) (sign-begins mark.OpenParenthesis))
 
 pub send_forms-begin : Begins (one_of send_starts) true SendForms
-send_forms-begin = either-starts SpellsMustSend SpellsParenthesised (word_spelling word.MustSend ∷ []) group_starts send-begins parenthesised-begins
+send_forms-begin = either-starts SpellsMustSend SpellsParenthesised (shape.Word word.MustSend ∷ []) group_starts send-begins parenthesised-begins
 
 pub before_forms-begin : Begins (one_of before_starts) true BeforeForms
-before_forms-begin = either-starts SpellsBefore SendForms (word_spelling word.In ∷ []) send_starts before-begins send_forms-begin
+before_forms-begin = either-starts SpellsBefore SendForms (shape.Word word.In ∷ []) send_starts before-begins send_forms-begin
 
 pub value_forms-begin : Begins (one_of value_starts) true ValueForms
 value_forms-begin = either-starts SpellsValue BeforeForms name_shapes before_starts value-begins before_forms-begin
 
 pub test_forms-begin : Begins (one_of test_starts) true TestForms
-test_forms-begin = either-starts SpellsTest ValueForms (texts tests) value_starts test-begins value_forms-begin
+test_forms-begin = either-starts SpellsTest ValueForms (shapes_of tests) value_starts test-begins value_forms-begin
 
 pub truth_forms-begin : Begins (one_of truth_starts) true TruthForms
-truth_forms-begin = either-starts SpellsTruth TestForms (texts truths) test_starts truth-begins test_forms-begin
+truth_forms-begin = either-starts SpellsTruth TestForms (shapes_of truths) test_starts truth-begins test_forms-begin
 
 pub operand-begins : Begins (one_of operand_starts) true SpellsOperand
-operand-begins e w m text = either-starts SpellsNumber TruthForms (codes "INT" ∷ []) truth_starts number_form-begins truth_forms-begin e w m (opened e w text)
+operand-begins e w m text = either-starts SpellsNumber TruthForms (shape.Number ∷ []) truth_starts number_form-begins truth_forms-begin e w m (opened e w text)

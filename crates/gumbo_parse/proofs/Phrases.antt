@@ -15,7 +15,8 @@ use Rattle.gumbo_parse.specs.Operators.{quantifier_word}
 use Rattle.gumbo_parse.specs.Printing.{bound_text, in_parentheses_text, quantifier_text, range_text}
 use Rattle.gumbo_parse.specs.Words.{word_spelling}
 use Rattle.gumbo_parse.proofs.NumberTokens.{number-no-sign}
-use Rattle.gumbo_parse.proofs.Written.{Writes, Anything, both, blank-behind, blank-before}
+use Rattle.gumbo_parse.proofs.Written.{Writes}
+use Rattle.hw_reading.proofs.Written.{Anything, both, blank-behind, blank-before}
 use Rattle.gumbo_parse.proofs.Pieces.{Ended, name, a_word, in_word, number, closed, spaced, minus, dot, name-no-dot}
 
 -- "." NAME

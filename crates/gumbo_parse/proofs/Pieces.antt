@@ -19,12 +19,13 @@ use Rattle.gumbo_parse.specs.Allowed.{IsAllowed, AreAllowed}
 use Rattle.gumbo_parse.specs.Marks.{mark_spelling}
 use Rattle.gumbo_parse.specs.Words.{word_spelling, word_named, is_identifier}
 use Rattle.gumbo_parse.proofs.NumberTokens.{NoSign, number-stands}
-use Rattle.gumbo_parse.proofs.Runs.{Stops}
-use Rattle.gumbo_parse.proofs.Standing.{StandsBefore}
+use Rattle.hw_reading.proofs.Runs.{Stops}
+use Rattle.gumbo_parse.proofs.Written.{StandsBefore}
 use Rattle.gumbo_parse.proofs.SymbolTokens.{is_closed, closed-stands, before-space, dot-stands, minus-stands}
 use Rattle.gumbo_parse.proofs.WordTokens.{letter-first, name-stands, spelled-so, word-stands}
-use Rattle.gumbo_parse.proofs.Written.{Writes, Anything, blank-behind}
-use Rattle.gumbo_parse.proofs.Written as written
+use Rattle.gumbo_parse.proofs.Written.{Writes}
+use Rattle.hw_reading.proofs.Written.{Anything, blank-behind}
+use Rattle.hw_reading.proofs.Written as written
 
 -- what goes on with no name, word or number
 abbrev pub Ended : List ℕ → Type 0

@@ -3,8 +3,12 @@ use Rattle.std.proofs.Common.{◌≡◌, inl, inr, ℕ, List, [], ◌∷◌, map
 use Rattle.std.specs.List.{flat_map}
 use Rattle.std.specs.Option.{option_map}
 use Rattle.hw_text.specs.Language.{One, ◌⋅◌, Maybe, Each}
-use Rattle.gumbo_parse.specs.declared.class.BaseType.{BaseType}
-use Rattle.gumbo_parse.specs.declared.class.BaseType.TheVariants.{Boolean}
+use Rattle.hw_text.specs.declared.base_type.BaseType.{BaseType}
+use Rattle.hw_reading.specs.Lists.{all_of, SomeOf}
+use Rattle.hw_text.specs.BaseTypes.{base_name}
+use Rattle.hw_text.proofs.BaseNames.{named_own}
+use Rattle.gumbo_parse.specs.declared.shape.Shape.TheVariants as shape
+use Rattle.gumbo_parse.specs.declared.level.Level.TheVariants as level
 use Rattle.gumbo_parse.specs.declared.class.Class.{Class}
 use Rattle.gumbo_parse.specs.declared.class.Class.TheVariants.{Base, Model}
 use Rattle.gumbo_parse.specs.declared.class.Variable.{Variable}
@@ -20,14 +24,14 @@ use Rattle.gumbo_parse.specs.declared.token.Token.{Token}
 use Rattle.gumbo_parse.specs.declared.token.Token.TheVariants as token
 use Rattle.gumbo_parse.specs.declared.word.Word.{Word}
 use Rattle.gumbo_parse.specs.declared.word.Word.TheVariants as word
-use Rattle.gumbo_parse.specs.Annex.{clause_word, kinds, clause_of, SpellsClause, or_none, all_of, SpellsSome, SpellsSection, initial, handler_of, SpellsHandler, compute_of, SpellsCompute, contract_of, SpellsContract}
+use Rattle.gumbo_parse.specs.Annex.{clause_word, kinds, clause_of, SpellsClause, or_none, SpellsSection, initial, handler_of, SpellsHandler, compute_of, SpellsCompute, contract_of, SpellsContract}
 use Rattle.gumbo_parse.specs.Classes.{base_class, name_behind, SpellsStep, SpellsImplementation, model_class, SpellsClass, variable_of, SpellsVariable}
 use Rattle.gumbo_parse.specs.ClassNames.{other_of}
 use Rattle.gumbo_parse.specs.ContractTokens.{step_tokens, implementation_tokens, class_tokens, variable_tokens, description_tokens, clause_tokens, section_tokens, handler_tokens, compute_tokens, contract_tokens}
 use Rattle.gumbo_parse.specs.ExpressionTokens.{expression_tokens}
 use Rattle.gumbo_parse.specs.Grammar.{Keyword}
 use Rattle.gumbo_parse.specs.Unplaced.{unplaced_first, unplaced_class, unplaced_variable, unplaced_clause, unplaced_handler, unplaced_compute, unplaced_contract}
-use Rattle.gumbo_parse.specs.Values.{Tokens, start, place_of, one_listed, text_of, base_of, base_name}
+use Rattle.gumbo_parse.specs.Values.{Tokens, start, place_of, one_listed, text_of, base_of}
 use Rattle.gumbo_parse.proofs.OtherNames.{other_name_there}
 use Rattle.gumbo_parse.proofs.Respelled.{Spelled, one, then, made, there, not-there, there-plain, not-there-plain, each, each-plain, onto, told_as}
 use Rattle.gumbo_parse.proofs.RespelledExpressions.{respelled}
@@ -35,11 +39,10 @@ use Rattle.gumbo_parse.proofs.RespelledOperands.{started}
 use Rattle.gumbo_parse.proofs.RespelledPieces.{at_start, sign, keyword, named, regroup-four}
 
 base_type : (b : BaseType) → Spelled (One base_of) (λ x. x) b (token.Name (base_name b) ∷ [])
-base_type Boolean = one base_of (λ x. x) Boolean (token.Name (base_name Boolean)) (λ at. Boolean) (λ at. refl) (λ at. refl)
-base_type b = one base_of (λ x. x) b (token.Name (base_name b)) (λ at. b) (λ at. refl) (λ at. refl)
+base_type b = one base_of (λ x. x) b (token.Name (base_name b)) (λ at. b) (λ at. named_own (base_name b) b refl) (λ at. refl)
 
-base_package : Spelled (One (place_of (codes "base_types"))) (λ at. start) start (token.Name (codes "base_types") ∷ [])
-base_package = one (place_of (codes "base_types")) (λ at. start) start (token.Name (codes "base_types")) (λ at. at) (λ at. refl) (λ at. refl)
+base_package : Spelled (One (place_of shape.BasePackage)) (λ at. start) start (token.Name (codes "base_types") ∷ [])
+base_package = one (place_of shape.BasePackage) (λ at. start) start (token.Name (codes "base_types")) (λ at. at) (λ at. refl) (λ at. refl)
 
 -- "::" NAME
 step : (n : List ℕ) → Spelled SpellsStep (λ m. m) n (step_tokens n)
@@ -77,9 +80,9 @@ clause : (c : Clause) → Spelled SpellsClause unplaced_clause (unplaced_clause 
 clause c =
     told_as
     (ap (λ (l : List Token). token.Word (clause_word c.kind) ∷ token.Name c.name.name ∷ l)
-    (regroup-four (description_tokens c.description) (token.Mark mark.Colon ∷ []) (expression_tokens c.expression 0) (token.Mark mark.Semicolon ∷ []))) refl
+    (regroup-four (description_tokens c.description) (token.Mark mark.Colon ∷ []) (expression_tokens c.expression level.Implication) (token.Mark mark.Semicolon ∷ []))) refl
     (made clause_of unplaced_clause (λ p. refl)
-    (then (kind c.kind) (then (named c.name) (then (description c.description) (then (sign mark.Colon) (then (started (respelled c.expression 0)) (sign mark.Semicolon)))))))
+    (then (kind c.kind) (then (named c.name) (then (description c.description) (then (sign mark.Colon) (then (started (respelled c.expression level.Implication)) (sign mark.Semicolon)))))))
 
 -- [ word x { x } ]
 module _ {V X : Type 0} (W : V → Tokens → Type 0) (g : V → V) (v : V) (w : Word) (A : X → Tokens → Type 0) (f : X → X) (tokens : X → List Token) (head : Spelled W g v (token.Word w ∷ [])) (member : (x : X) → Spelled A f (f x) (tokens x)) where
@@ -87,11 +90,11 @@ module _ {V X : Type 0} (W : V → Tokens → Type 0) (g : V → V) (v : V) (w :
   none-bare None = refl
   none-bare (Some p) = refl
 
-  some : (x : X) (xs : List X) → Spelled (SpellsSome A) (map f) (map f (x ∷ xs)) (flat_map tokens (x ∷ xs))
+  some : (x : X) (xs : List X) → Spelled (SomeOf A) (map f) (map f (x ∷ xs)) (flat_map tokens (x ∷ xs))
   some x xs = made all_of (map f) (λ p. refl) (then (member x) (each A f tokens member xs))
 
   section : (xs : List X) → Spelled (SpellsSection W A) (map f) (map f xs) (section_tokens w tokens xs)
-  section [] = made or_none (map f) none-bare (not-there (W ⋅ SpellsSome A) (λ p. (g p.0, map f p.1)))
+  section [] = made or_none (map f) none-bare (not-there (W ⋅ SomeOf A) (λ p. (g p.0, map f p.1)))
   section (x ∷ xs) = made or_none (map f) none-bare (there (then head (some x xs)))
 
 clauses : (cs : List Clause) → Spelled (Each SpellsClause) (map unplaced_clause) (map unplaced_clause cs) (flat_map clause_tokens cs)

@@ -1,6 +1,5 @@
 -- The canonical tokens of expressions spell them.
-use Rattle.std.proofs.Common.{◌≡◌, ℕ, nat_lt, Bool, true, false, if◌then◌else◌, List, [], ◌∷◌, ◌++◌, Some, refl, sym, ap, ◌∙◌, subst, append_assoc, arith}
-use Rattle.std.proofs.lemmas.Bool.{ltb-false}
+use Rattle.std.proofs.Common.{◌≡◌, Bool, true, false, if◌then◌else◌, List, [], ◌∷◌, ◌++◌, Some, refl, sym, ap, ◌∙◌, subst, append_assoc}
 use Rattle.hw_text.specs.declared.place.Place.{Place}
 use Rattle.hw_text.specs.Language.{One}
 use Rattle.gumbo_parse.specs.declared.expression.Expression.{Expression}
@@ -18,14 +17,14 @@ use Rattle.gumbo_parse.specs.declared.token.Token.{Token}
 use Rattle.gumbo_parse.specs.declared.token.Token.TheVariants as token
 use Rattle.gumbo_parse.specs.declared.word.Word.TheVariants as word
 use Rattle.gumbo_parse.specs.ExpressionTokens.{Written, in_parentheses, unary_token, binary_token, expression_tokens}
-use Rattle.gumbo_parse.specs.Grammar.{Spells, SpellsGroup, joined, operation_of}
+use Rattle.gumbo_parse.specs.Grammar.{Spells, SpellsGroup, applied, operation_of}
 use Rattle.gumbo_parse.specs.Grammar as grammar
 use Rattle.gumbo_parse.specs.Levels.{next, right, form_of, infixes, prefixes}
-use Rattle.gumbo_parse.specs.Operators.{unary_level, binary_level, left_level, right_level}
+use Rattle.gumbo_parse.specs.Levels.{unary_level, binary_level, left_level, right_level, is_looser}
 use Rattle.gumbo_parse.specs.Unplaced.{unplaced_expression}
 use Rattle.gumbo_parse.specs.Values.{Tokens, start, one_listed}
 use Rattle.gumbo_parse.proofs.ExpressionInduction.{of_each_expression}
-use Rattle.gumbo_parse.proofs.LevelsClimbed.{level_at, loose, chain-more}
+use Rattle.gumbo_parse.proofs.LevelsClimbed.{loose, loosest, chain-more}
 use Rattle.gumbo_parse.proofs.Respelled.{Spelled, one, onto, told_as, split}
 use Rattle.gumbo_parse.proofs.RespelledPieces.{at_start}
 use Rattle.gumbo_parse.proofs.RespelledOperands.{SpelledAt, Respells, PartRespells, operand, parenthesised, number_respells, truth_respells, value_respells, before_respells, test_respells, must_send_respells, quantified_respells, field_respells, index_respells}
@@ -33,11 +32,11 @@ use Rattle.gumbo_parse.proofs.TokensOfExpressions.{tokens-Unary, tokens-Binary}
 use Rattle.gumbo_parse.proofs.UnplacedExpressions.{unplaced-Unary, unplaced-Binary}
 
 -- an expression of a level, in parentheses where a tighter one is wanted
-grouped : (own wanted : ℕ) (b : Bool) {z : Expression} {us : List Token} → nat_lt own wanted ≡ b → SpelledAt own z us → SpelledAt wanted z (if b then in_parentheses us else us)
+grouped : (own wanted : Level) (b : Bool) {z : Expression} {us : List Token} → is_looser own wanted ≡ b → SpelledAt own z us → SpelledAt wanted z (if b then in_parentheses us else us)
 grouped own wanted true is text =
-    operand wanted (parenthesised (onto SpellsGroup (λ y ts spelled. grammar.whole y ts (loose own 0 y ts (omega arith) spelled)) text))
+    operand wanted (parenthesised (onto SpellsGroup (λ y ts spelled. grammar.whole y ts (loose own level.Implication y ts (loosest own) spelled)) text))
 grouped own wanted false is text =
-    onto (Spells (level_at wanted)) (λ y ts spelled. loose own wanted y ts (ltb-false own wanted is) spelled) text
+    onto (Spells wanted) (λ y ts spelled. loose own wanted y ts is spelled) text
 
 -- an operator of a level, as it is printed
 abbrev Infix : Level → BinaryOperator → Type 0
@@ -66,8 +65,8 @@ module _ (l : Level) (o : BinaryOperator) (x y : Expression) (us vs : List Token
         let behind : Tokens = front.1 ++ cut.1 in
         let more : Operation = operation_of (q.0, r.0) in
         let all : ts ≡ front.0 ++ behind = cut.2 ∙ ap (λ (w : Tokens). w ++ cut.1) front.2 ∙ append_assoc front.0 front.1 cut.1 in (
-          joined p.0 more,
-          grammar.pair l p.0 (Some more) front.0 behind (joined p.0 more) ts is refl all p.1
+          applied p.0 more,
+          grammar.pair l p.0 (Some more) front.0 behind (applied p.0 more) ts is refl all p.1
               (grammar.one_operation l more (Some more) behind refl (grammar.operation l q.0 r.0 front.1 cut.1 more behind refl refl q.1 r.1)),
           binary-bare q.0.0 o q.0.1 p.0 r.0 x y p.2 q.2 r.2,
         );
@@ -84,16 +83,16 @@ module _ (l : Level) (o : BinaryOperator) (x y : Expression) (us vs : List Token
         let behind : Tokens = front.1 ++ cut.1 in
         let more : Operation = operation_of (q.0, r.0) in
         let all : ts ≡ front.0 ++ behind = cut.2 ∙ ap (λ (w : Tokens). w ++ cut.1) front.2 ∙ append_assoc front.0 front.1 cut.1 in (
-          joined p.0 more,
-          subst (λ (w : Tokens). Spells l (joined p.0 more) w) (sym all)
+          applied p.0 more,
+          subst (λ (w : Tokens). Spells l (applied p.0 more) w) (sym all)
               (chain-more l p.0 front.0 more behind is p.1 (grammar.operation l q.0 r.0 front.1 cut.1 more behind refl refl q.1 r.1)),
           binary-bare q.0.0 o q.0.1 p.0 r.0 x y p.2 q.2 r.2,
         );
   }
 
-infix_spelled : (o : BinaryOperator) → Infix (level_at (binary_level o)) o
+infix_spelled : (o : BinaryOperator) → Infix (binary_level o) o
 infix_spelled binary.Implies = one (one_listed (infixes level.Implication)) at_start (start, binary.Implies) (token.Word word.Implies) (λ at. (at, binary.Implies)) (λ at. refl) (λ at. refl)
-infix_spelled o = one (one_listed (infixes (level_at (binary_level o)))) at_start (start, o) (binary_token o) (λ at. (at, o)) (λ at. refl) (λ at. refl)
+infix_spelled o = one (one_listed (infixes (binary_level o))) at_start (start, o) (binary_token o) (λ at. (at, o)) (λ at. refl) (λ at. refl)
 
 -- what an operator joins
 joins : (o : BinaryOperator) (x y : Expression) (us vs : List Token) → SpelledAt (left_level o) x us → SpelledAt (right_level o) y vs → SpelledAt (binary_level o) (expression.Binary start o x y) (us ++ binary_token o ∷ [] ++ vs)
@@ -115,7 +114,7 @@ joins binary.GreaterOrEqual x y us vs a b = paired level.Comparison binary.Great
 binary_respells : (at : Place) (o : BinaryOperator) (l r : Expression) → Respells l → Respells r → Respells (expression.Binary at o l r)
 binary_respells at o l r a b wanted =
     told_as (sym (ap (λ (w : Written). w wanted) (tokens-Binary at o l r))) (sym (unplaced-Binary at o l r))
-    (grouped (binary_level o) wanted (nat_lt (binary_level o) wanted) refl
+    (grouped (binary_level o) wanted (is_looser (binary_level o) wanted) refl
     (joins o (unplaced_expression l) (unplaced_expression r) (expression_tokens l (left_level o)) (expression_tokens r (right_level o)) (a (left_level o)) (b (right_level o))))
 
 abbrev Prefixed : Level → UnaryOperator → Type 0
@@ -143,7 +142,7 @@ leads unary.Minus x us a =
 unary_respells : (at : Place) (o : UnaryOperator) (x : Expression) → Respells x → Respells (expression.Unary at o x)
 unary_respells at o x a wanted =
     told_as (sym (ap (λ (w : Written). w wanted) (tokens-Unary at o x))) (sym (unplaced-Unary at o x))
-    (grouped (unary_level o) wanted (nat_lt (unary_level o) wanted) refl (leads o (unplaced_expression x) (expression_tokens x (unary_level o)) (a (unary_level o))))
+    (grouped (unary_level o) wanted (is_looser (unary_level o) wanted) refl (leads o (unplaced_expression x) (expression_tokens x (unary_level o)) (a (unary_level o))))
 
 -- the canonical tokens of an expression spell it in each place
 pub respelled : (x : Expression) → Respells x

@@ -4,6 +4,7 @@ use Rattle.std.specs.List.{flat_map}
 use Rattle.std.specs.Option.{option_map}
 use Rattle.hw_text.specs.declared.place.Place.{Place}
 use Rattle.hw_text.specs.Language.{One}
+use Rattle.gumbo_parse.specs.declared.level.Level.{Level}
 use Rattle.gumbo_parse.specs.declared.expression.Bound.{Bound}
 use Rattle.gumbo_parse.specs.declared.expression.Expression.{Expression}
 use Rattle.gumbo_parse.specs.declared.expression.Expression.TheVariants as expression
@@ -25,7 +26,7 @@ use Rattle.gumbo_parse.specs.Operators.{test_word}
 use Rattle.gumbo_parse.specs.Unplaced.{unplaced_named, unplaced_expression, unplaced_part}
 use Rattle.gumbo_parse.specs.Values.{Tokens, start, one_listed}
 use Rattle.gumbo_parse.proofs.ExpressionInduction.{OfEach}
-use Rattle.gumbo_parse.proofs.LevelsClimbed.{level_at, operand_at}
+use Rattle.gumbo_parse.proofs.LevelsClimbed.{operand_at}
 use Rattle.gumbo_parse.proofs.OperandForms.{shut}
 use Rattle.gumbo_parse.proofs.Respelled.{Spelled, one, then, made, onto, told_as, split, no-tokens}
 use Rattle.gumbo_parse.proofs.RespelledPieces.{at_start, sign, named, number, port, before_entry, asked, bare_asked, heading}
@@ -33,24 +34,24 @@ use Rattle.gumbo_parse.proofs.TokensOfExpressions.{tokens-Number, tokens-Truth, 
 use Rattle.gumbo_parse.proofs.UnplacedExpressions.{unplaced-Number, unplaced-Truth, unplaced-Value, unplaced-Before, unplaced-Test, unplaced-MustSend, unplaced-Quantified, unplaced-Field, unplaced-Index}
 
 -- tokens that spell the expression at a level, wherever they stand
-abbrev pub SpelledAt : ℕ → Expression → List Token → Type 0
-SpelledAt wanted z us = Spelled (Spells (level_at wanted)) unplaced_expression z us
+abbrev pub SpelledAt : Level → Expression → List Token → Type 0
+SpelledAt wanted z us = Spelled (Spells wanted) unplaced_expression z us
 
 -- in each place, an expression by its tokens
 abbrev pub Respells : Expression → Type 0
-Respells x = (wanted : ℕ) → SpelledAt wanted (unplaced_expression x) (expression_tokens x wanted)
+Respells x = (wanted : Level) → SpelledAt wanted (unplaced_expression x) (expression_tokens x wanted)
 
 abbrev pub PartRespells : Selector → Type 0
 PartRespells s = Spelled SpellsPart unplaced_part (unplaced_part s) (selector_tokens s)
 
-pub operand : (wanted : ℕ) {z : Expression} {us : List Token} → Spelled SpellsOperand unplaced_expression z us → SpelledAt wanted z us
-operand wanted text = onto (Spells (level_at wanted)) (λ y ts spelled. operand_at wanted y ts (grammar.operand level.Operand y ts refl spelled)) text
+pub operand : (wanted : Level) {z : Expression} {us : List Token} → Spelled SpellsOperand unplaced_expression z us → SpelledAt wanted z us
+operand wanted text = onto (Spells wanted) (λ y ts spelled. operand_at wanted y ts (grammar.operand level.Operand y ts refl spelled)) text
 
 -- an expression as it stands alone, and where it begins
 abbrev pub bare_started : Place × Expression → Place × Expression
 bare_started p = (start, unplaced_expression p.1)
 
-pub started : {z : Expression} {us : List Token} → SpelledAt 0 z us → Spelled SpellsStarted bare_started (start, z) us
+pub started : {z : Expression} {us : List Token} → SpelledAt level.Implication z us → Spelled SpellsStarted bare_started (start, z) us
 started text = record {
   read = λ ts e.
       let p = text.read ts e in
@@ -107,7 +108,7 @@ before_respells at x ps all wanted =
 nothing_sent : Spelled SpellsSent (option_map bare_started) None []
 nothing_sent = record { read = λ ts e. (None, grammar.nothing_sent None ts refl (no-tokens ts e), refl) }
 
-something_sent : {z : Expression} {us : List Token} → SpelledAt 0 z us → Spelled SpellsSent (option_map bare_started) (Some (start, z)) (token.Mark mark.Comma ∷ us)
+something_sent : {z : Expression} {us : List Token} → SpelledAt level.Implication z us → Spelled SpellsSent (option_map bare_started) (Some (start, z)) (token.Mark mark.Comma ∷ us)
 something_sent text =
     onto SpellsSent (λ y ts made. grammar.sent made.0.0 made.0.1 made.2.0 made.2.1 y ts made.1 made.2.2 made.2.3 made.2.4)
     (made (λ p. Some p.1) (option_map bare_started) (λ p. refl) (then (sign mark.Comma) (started text)))
@@ -140,13 +141,13 @@ test_respells at what x wanted = told_as (sym (ap (λ (w : Written). w wanted) (
 pub must_send_respells : (at : Place) (x : Named) (begin : Place) (sent : Expression) → Respells sent → Respells (expression.MustSend at x begin sent)
 must_send_respells at x begin sent respells wanted =
     told_as (sym (ap (λ (w : Written). w wanted) (tokens-MustSend at x begin sent))) (sym (unplaced-MustSend at x begin sent))
-    (operand wanted (must_send x (something_sent (respells 0))))
+    (operand wanted (must_send x (something_sent (respells level.Implication))))
 
 pub quantified_respells : (at : Place) (all : Quantifier) (x : Named) (from below : Bound) (begin : Place) (body : Expression) → Respells body → Respells (expression.Quantified at all x from below begin body)
 quantified_respells at all x from below begin body respells wanted =
     told_as (sym (ap (λ (w : Written). w wanted) (tokens-Quantified at all x from below begin body))) (sym (unplaced-Quantified at all x from below begin body))
     (operand wanted (parenthesised (onto SpellsGroup (λ y ts made. grammar.quantified made.0.0 made.0.1 made.2.0 made.2.1 y ts made.1 made.2.2 made.2.3 made.2.4)
-    (made quantified_of unplaced_expression (λ p. unplaced-Quantified p.0.place p.0.quantifier p.0.variable p.0.from p.0.below p.1.0 p.1.1) (then (heading all x from below) (started (respells 0)))))))
+    (made quantified_of unplaced_expression (λ p. unplaced-Quantified p.0.place p.0.quantifier p.0.variable p.0.from p.0.below p.1.0 p.1.1) (then (heading all x from below) (started (respells level.Implication)))))))
 
 pub field_respells : (x : Named) → PartRespells (selector.Field x)
 field_respells x =
@@ -160,4 +161,4 @@ index_respells begin x respells =
     (λ y ts made.
     let inner = made.2.4 in
     grammar.index made.0.0 made.0.1.1 made.0.1.0 made.2.0 inner.0 inner.1 y ts made.1 (made.2.2 ∙ ap (λ (l : Tokens). made.2.0 ++ l) inner.2) made.2.3 inner.3 inner.4)
-    (made index_of unplaced_part (λ p. unplaced-Index p.1.0.0 p.1.0.1) (then (sign mark.OpenBracket) (then (started (respells 0)) (sign mark.CloseBracket)))))
+    (made index_of unplaced_part (λ p. unplaced-Index p.1.0.0 p.1.0.1) (then (sign mark.OpenBracket) (then (started (respells level.Implication)) (sign mark.CloseBracket)))))

@@ -3,6 +3,8 @@ use Rattle.std.proofs.Common.{◌≡◌, ℕ, Bool, true, false, is_some, List, 
 use Rattle.std.specs.Option.{option_map}
 use Rattle.hw_text.specs.declared.place.Place.{Place}
 use Rattle.hw_text.specs.Language.{One}
+use Rattle.hw_reading.specs.Shapes.{at_if}
+use Rattle.gumbo_parse.specs.declared.shape.Shape.TheVariants as shape
 use Rattle.gumbo_parse.specs.declared.expression.Bound.{Bound}
 use Rattle.gumbo_parse.specs.declared.expression.Named.{Named}
 use Rattle.gumbo_parse.specs.declared.mark.Mark.{Mark}
@@ -16,23 +18,21 @@ use Rattle.gumbo_parse.specs.declared.word.Word.{Word}
 use Rattle.gumbo_parse.specs.declared.word.Word.TheVariants as word
 use Rattle.gumbo_parse.specs.ExpressionTokens.{sign_tokens, bound_tokens, quantification_tokens}
 use Rattle.gumbo_parse.specs.Grammar.{Sign, Keyword, Name, inside, SpellsPort, SpellsIn, asked_of, SpellsAsked, bound_of, SpellsBound, quantifiers, quantification_of, SpellsQuantification}
-use Rattle.gumbo_parse.specs.Marks.{mark_spelling}
 use Rattle.gumbo_parse.specs.Operators.{quantifier_word}
 use Rattle.gumbo_parse.specs.Unplaced.{unplaced_named, unplaced_bound}
-use Rattle.gumbo_parse.specs.Values.{start, at_if, place_of, name_of, number_of, one_listed}
-use Rattle.gumbo_parse.specs.Words.{word_spelling}
+use Rattle.gumbo_parse.specs.Values.{start, place_of, name_of, number_of, one_listed}
 use Rattle.gumbo_parse.proofs.Respelled.{Spelled, one, then, made, there, not-there, told_as}
-use Rattle.gumbo_parse.proofs.Shapes.{same-text}
+use Rattle.gumbo_parse.specs.ShapeSamples.{same-word, same-mark}
 
 -- a value beside its place
 abbrev pub at_start : {X : Type 0} → Place × X → Place × X
 at_start p = (start, p.1)
 
 pub sign : (m : Mark) → Spelled (Sign m) (λ at. start) start (token.Mark m ∷ [])
-sign m = one (place_of (mark_spelling m)) (λ at. start) start (token.Mark m) (λ at. at) (λ at. ap (λ (b : Bool). at_if b at) (same-text (mark_spelling m))) (λ at. refl)
+sign m = one (place_of (shape.Mark m)) (λ at. start) start (token.Mark m) (λ at. at) (λ at. ap (λ (b : Bool). at_if b at) (same-mark m)) (λ at. refl)
 
 pub keyword : (w : Word) → Spelled (Keyword w) (λ at. start) start (token.Word w ∷ [])
-keyword w = one (place_of (word_spelling w)) (λ at. start) start (token.Word w) (λ at. at) (λ at. ap (λ (b : Bool). at_if b at) (same-text (word_spelling w))) (λ at. refl)
+keyword w = one (place_of (shape.Word w)) (λ at. start) start (token.Word w) (λ at. at) (λ at. ap (λ (b : Bool). at_if b at) (same-word w)) (λ at. refl)
 
 pub named : (n : Named) → Spelled Name unplaced_named (unplaced_named n) (token.Name n.name ∷ [])
 named n = one name_of unplaced_named (unplaced_named n) (token.Name n.name) (λ at. record { name = n.name; place = at }) (λ at. refl) (λ at. refl)

@@ -9,7 +9,7 @@ use Rattle.gumbo_parse.specs.Grammar.{Spells, chain, pair, plain, operand, no_op
 use Rattle.gumbo_parse.specs.Levels.{next, form_of}
 use Rattle.gumbo_parse.specs.Values.{Tokens}
 use Rattle.gumbo_parse.proofs.BoundForms.{a_number}
-use Rattle.gumbo_parse.proofs.PortForms.{made}
+use Rattle.hw_reading.proofs.Choices.{made}
 
 abbrev Sample : Level → Type 0
 Sample l = (e : Expression) × (w : Tokens) × Spells l e w

@@ -2,6 +2,7 @@
 use Rattle.std.proofs.Common.{◌≡◌, ℕ, ◌+◌, ◌≤◌, List, [], ◌∷◌, ◌++◌, length, codes, Option, Some, None, refl, sym, ap, subst, arith}
 use Rattle.std.proofs.lemmas.List.Elements.{All-head, All-tail}
 use Rattle.std.specs.List.{All, flat_map}
+use Rattle.gumbo_parse.specs.declared.level.Level.TheVariants as level
 use Rattle.gumbo_parse.specs.declared.class.Class.{Class}
 use Rattle.gumbo_parse.specs.declared.class.Class.TheVariants.{Base, Model}
 use Rattle.gumbo_parse.specs.declared.class.Variable.{Variable}
@@ -23,8 +24,8 @@ use Rattle.gumbo_parse.specs.ContractTokens.{step_tokens, implementation_tokens,
 use Rattle.gumbo_parse.specs.ExpressionTokens.{expression_tokens}
 use Rattle.gumbo_parse.specs.Flaws.{spot_behind, length_in}
 use Rattle.gumbo_parse.specs.Printed.{handler_clauses, compute_clauses, clauses_of, IsShort}
-use Rattle.gumbo_parse.specs.Values.{base_name}
-use Rattle.gumbo_parse.proofs.BothParts.{all-left, all-right}
+use Rattle.hw_text.specs.BaseTypes.{base_name}
+use Rattle.hw_reading.proofs.Written.{all-left, all-right}
 use Rattle.gumbo_parse.proofs.InnerTokens.{Inner, one-more, expression_inner}
 
 -- these tokens lead from here to there in a clause, and none of them is too far behind a colon
@@ -94,8 +95,8 @@ inside n (t ∷ ts) inner small =
 
 clause : (c : Clause) → IsShort c → Leads Outside (clause_tokens c) Outside
 clause c short =
-    let us : List Token = expression_tokens c.expression 0 in
-    let expressed : Leads (Expression 0) us (Expression (0 + length us)) = record { along = inside 0 us (expression_inner c.expression 0) (omega arith) } in
+    let us : List Token = expression_tokens c.expression level.Implication in
+    let expressed : Leads (Expression 0) us (Expression (0 + length us)) = record { along = inside 0 us (expression_inner c.expression level.Implication) (omega arith) } in
     both (both (both (both (kind c.kind) (both (pass Heading (token.Name c.name.name) Heading refl low) (description c.description)))
     (pass Heading (token.Mark mark.Colon) (Expression 0) refl low)) expressed)
     (pass (Expression (0 + length us)) (token.Mark mark.Semicolon) Outside refl low)

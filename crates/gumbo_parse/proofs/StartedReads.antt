@@ -13,7 +13,7 @@ use Rattle.gumbo_parse.specs.declared.level.Level.TheVariants as level
 use Rattle.gumbo_parse.specs.Grammar.{Spells, SpellsStarted, started, start_of}
 use Rattle.gumbo_parse.specs.Levels.{Ends}
 use Rattle.gumbo_parse.specs.Values.{Tokens, one_of}
-use Rattle.gumbo_parse.proofs.Choices.{same}
+use Rattle.hw_reading.proofs.Choices.{same}
 use Rattle.gumbo_parse.proofs.LevelFacts.{starts}
 use Rattle.gumbo_parse.proofs.LevelForms.{spells-begins}
 

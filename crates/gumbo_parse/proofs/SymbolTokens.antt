@@ -9,7 +9,7 @@ use Rattle.gumbo_parse.specs.declared.mark.Mark.TheVariants as mark
 use Rattle.gumbo_parse.specs.Marks.{mark_spelling, mark_at}
 use Rattle.gumbo_parse.specs.Tokens.{mark_token, text_token, token_at}
 use Rattle.gumbo_parse.proofs.NumberTokens.{NoSign}
-use Rattle.gumbo_parse.proofs.Standing.{StandsBefore}
+use Rattle.gumbo_parse.proofs.Written.{StandsBefore}
 
 -- the marks that no byte behind them goes on with
 abbrev pub is_closed : Mark → Bool

@@ -12,8 +12,8 @@ use Rattle.gumbo_parse.specs.declared.word.Word.{Word}
 use Rattle.gumbo_parse.specs.declared.word.Word.TheVariants as word
 use Rattle.gumbo_parse.specs.Tokens.{word_or_name, word_token, token_at}
 use Rattle.gumbo_parse.specs.Words.{word_spelling, word_named, is_identifier}
-use Rattle.gumbo_parse.proofs.Runs.{Stops, run-over}
-use Rattle.gumbo_parse.proofs.Standing.{StandsBefore}
+use Rattle.hw_reading.proofs.Runs.{Stops, run-over}
+use Rattle.gumbo_parse.proofs.Written.{StandsBefore}
 
 not-dash : (b : ℕ) → is_letter b ≡ true → (b == 45) ≡ false
 not-dash b h = grind (arith, nat_tests)

@@ -2,6 +2,8 @@
 use Rattle.std.proofs.Common.{◌≡◌, ℕ, List, [], ◌∷◌, ◌++◌, codes, Option, Some, None, refl, subst}
 use Rattle.std.proofs.lemmas.List.{append-nil}
 use Rattle.std.specs.List.{flat_map}
+use Rattle.gumbo_parse.specs.Tokens.{token_at}
+use Rattle.hw_text.specs.Text.{skipped}
 use Rattle.gumbo_parse.specs.declared.class.Class.{Class}
 use Rattle.gumbo_parse.specs.declared.class.Class.TheVariants.{Base, Model}
 use Rattle.gumbo_parse.specs.declared.class.Variable.{Variable}
@@ -16,16 +18,17 @@ use Rattle.gumbo_parse.specs.declared.word.Word.{Word}
 use Rattle.gumbo_parse.specs.declared.word.Word.TheVariants as word
 use Rattle.gumbo_parse.specs.Allowed.{AreAllowed}
 use Rattle.gumbo_parse.specs.Annex.{clause_word, line, description_text, clause_text, clauses_text, section_text, handler_text, compute_text, annex_text}
-use Rattle.gumbo_parse.specs.Classes.{behind_colons, implementation_text, base_text, class_text, variable_text}
+use Rattle.gumbo_parse.specs.Classes.{behind_colons, implementation_text, class_text, variable_text}
 use Rattle.gumbo_parse.specs.ContractTokens.{step_tokens, implementation_tokens, class_tokens, variable_tokens, description_tokens, clause_tokens, section_tokens, handler_tokens, compute_tokens, contract_tokens}
 use Rattle.gumbo_parse.specs.Lexed.{HasTokens}
-use Rattle.gumbo_parse.specs.Values.{base_name}
+use Rattle.hw_text.specs.BaseTypes.{base_name}
 use Rattle.gumbo_parse.specs.Words.{word_spelling}
 use Rattle.gumbo_parse.proofs.Pieces.{Ended, name, a_word, closed, spaced}
 use Rattle.gumbo_parse.proofs.Phrases.{behind_dot}
 use Rattle.gumbo_parse.proofs.SymbolTokens.{colon-before-line, text-stands}
-use Rattle.gumbo_parse.proofs.Written.{Has, Writes, Anything, both, blank-behind, blank-before, nothing, nothing-left, members, has-tokens}
-use Rattle.gumbo_parse.proofs.Written as written
+use Rattle.gumbo_parse.proofs.Written.{Writes}
+use Rattle.hw_reading.proofs.Written.{Has, Anything, both, blank-behind, blank-before, nothing, nothing-left, members, has-tokens}
+use Rattle.hw_reading.proofs.Written as written
 use Rattle.gumbo_parse.proofs.WrittenExpressions.{expression_written}
 
 -- a line end behind a word or a mark
@@ -63,7 +66,6 @@ implementation-ended None rest ended = ended
 implementation-ended (Some n) rest ended = (refl, refl)
 
 class : (c : Class) → Writes Ended (class_text c) (class_tokens c)
-unfolding base_text
 class (Base at base) = both (both (name (codes "base_types")) (closed mark.DoubleColon refl) (λ rest allowed any. (refl, refl))) (name (base_name base)) (λ rest allowed ended. tt)
 class (Model m) =
     both (both (name m.first.name) (steps m.others) (λ rest allowed ended. steps-ended m.others rest ended))
@@ -123,7 +125,8 @@ contract c =
 
 -- the canonical text of a contract of which the tokens are as the types allow has these tokens and no others
 pub contract_lexed : (c : Contract) → AreAllowed (contract_tokens c) → HasTokens (annex_text c) (contract_tokens c)
+unfolding token_at
 contract_lexed c allowed =
     has-tokens (annex_text c) (contract_tokens c)
-    (subst (λ (bs : List ℕ). Has bs (contract_tokens c)) (append-nil (annex_text c))
-    (subst (λ (ts : List Token). Has (annex_text c ++ []) ts) (append-nil (contract_tokens c)) ((contract c).before [] [] tt allowed nothing-left)))
+    (subst (λ (bs : List ℕ). Has token_at skipped bs (contract_tokens c)) (append-nil (annex_text c))
+    (subst (λ (ts : List Token). Has token_at skipped (annex_text c ++ []) ts) (append-nil (contract_tokens c)) ((contract c).before [] [] tt allowed (nothing-left refl refl))))

@@ -1,7 +1,8 @@
 -- The canonical text of an expression has its canonical tokens.
-use Rattle.std.proofs.Common.{◌≡◌, ℕ, nat_lt, Bool, true, false, if◌then◌else◌, List, [], ◌∷◌, ◌++◌, codes, refl, sym, subst}
+use Rattle.std.proofs.Common.{◌≡◌, ℕ, Bool, true, false, if◌then◌else◌, List, [], ◌∷◌, ◌++◌, codes, refl, sym, subst}
 use Rattle.std.proofs.lemmas.List.{append-nil}
 use Rattle.hw_text.specs.declared.place.Place.{Place}
+use Rattle.gumbo_parse.specs.declared.level.Level.TheVariants as level
 use Rattle.gumbo_parse.specs.declared.expression.Expression.{Expression}
 use Rattle.gumbo_parse.specs.declared.expression.Expression.TheOpen as opened
 use Rattle.gumbo_parse.specs.declared.expression.Expression.TheVariants as expression
@@ -19,7 +20,8 @@ use Rattle.gumbo_parse.specs.declared.token.Token.{Token}
 use Rattle.gumbo_parse.specs.declared.token.Token.TheVariants as token
 use Rattle.gumbo_parse.specs.declared.word.Word.TheVariants as word
 use Rattle.gumbo_parse.specs.ExpressionTokens.{Written, in_parentheses, unary_token, binary_token, expression_tokens_step, expression_tokens, selector_tokens}
-use Rattle.gumbo_parse.specs.Operators.{unary_level, binary_level, left_level, right_level, binary_text}
+use Rattle.gumbo_parse.specs.Levels.{unary_level, binary_level, left_level, right_level, is_looser}
+use Rattle.gumbo_parse.specs.Operators.{binary_text}
 use Rattle.gumbo_parse.specs.Printing.{Text, grouped, opening, closing, sign_text, is_minus, expression_step, expression_text, selector_text}
 use Rattle.gumbo_parse.proofs.ExpressionInduction.{of_each_expression}
 use Rattle.gumbo_parse.proofs.ExpressionTexts.{text-Unary, text-Binary, text-Quantified, text-Field, text-Index}
@@ -27,7 +29,8 @@ use Rattle.gumbo_parse.proofs.NumberTokens.{NoSign}
 use Rattle.gumbo_parse.proofs.Pieces.{Ended, Spaced, a_word, closed, any_mark, minus}
 use Rattle.gumbo_parse.proofs.Phrases.{behind_dot, quantification}
 use Rattle.gumbo_parse.proofs.TokensOfExpressions.{tokens-Unary, tokens-Binary, tokens-Quantified, tokens-Field, tokens-Index}
-use Rattle.gumbo_parse.proofs.Written.{Writes, both, blank-behind, blank-before, weaker}
+use Rattle.gumbo_parse.proofs.Written.{Writes}
+use Rattle.hw_reading.proofs.Written.{both, blank-behind, blank-before, weaker}
 use Rattle.gumbo_parse.proofs.WrittenOperands.{Fits, PartFits, ExpressionFits, fits-by, open_ended, number-fits, truth-fits, value-fits, before-fits, test-fits, must_send-fits}
 
 -- in parentheses or not
@@ -36,11 +39,11 @@ group true s ts text = open_ended (both (both (closed mark.OpenParenthesis refl)
 group false s ts text = subst (λ (bs : List ℕ). Writes Ended bs ts) (sym (append-nil s)) text
 
 signed : (o : UnaryOperator) (after_minus : Bool) (text : Text) (tokens : Written) → Fits text tokens → Writes Ended (sign_text o after_minus ++ text (unary_level o) (is_minus o)) (unary_token o ∷ tokens (unary_level o))
-signed unary.Not after_minus text tokens fits = both (blank-behind (codes " ") (λ rest. refl) (a_word word.Not) (λ rest. (refl, refl))) (fits.written 3 false) (λ rest allowed ended. tt)
-signed unary.Minus false text tokens fits = both minus (fits.written 7 true) (λ rest allowed ended. fits.unsigned rest allowed)
-signed unary.Minus true text tokens fits = both (blank-before (codes " ") (λ rest. refl) minus) (fits.written 7 true) (λ rest allowed ended. fits.unsigned rest allowed)
+signed unary.Not after_minus text tokens fits = both (blank-behind (codes " ") (λ rest. refl) (a_word word.Not) (λ rest. (refl, refl))) (fits.written level.Negation false) (λ rest allowed ended. tt)
+signed unary.Minus false text tokens fits = both minus (fits.written level.Sign true) (λ rest allowed ended. fits.unsigned rest allowed)
+signed unary.Minus true text tokens fits = both (blank-before (codes " ") (λ rest. refl) minus) (fits.written level.Sign true) (λ rest allowed ended. fits.unsigned rest allowed)
 
-unary-no-sign : (o : UnaryOperator) (s rest : List ℕ) → NoSign (grouped (unary_level o) 7 (sign_text o true ++ s) ++ rest)
+unary-no-sign : (o : UnaryOperator) (s rest : List ℕ) → NoSign (grouped (unary_level o) level.Sign (sign_text o true ++ s) ++ rest)
 unary-no-sign unary.Not s rest = (refl, refl)
 unary-no-sign unary.Minus s rest = (refl, refl)
 
@@ -48,12 +51,12 @@ unary-fits : (at : Place) (o : UnaryOperator) (x : Expression) → ExpressionFit
 unary-fits at o x fits =
     let text = expression_text x in
     let tokens = expression_tokens x in
-    let level = unary_level o in
+    let own = unary_level o in
     fits-by (expression_text (expression.Unary at o x)) (expression_step (opened.Unary at o text)) (expression_tokens (expression.Unary at o x)) (expression_tokens_step (opened.Unary at o tokens))
     (text-Unary at o x) (tokens-Unary at o x) (record {
       written = λ wanted after_minus.
-          group (nat_lt level wanted) (sign_text o after_minus ++ text level (is_minus o)) (unary_token o ∷ tokens level) (signed o after_minus text tokens fits);
-      unsigned = λ rest allowed. unary-no-sign o (text level (is_minus o)) rest;
+          group (is_looser own wanted) (sign_text o after_minus ++ text own (is_minus o)) (unary_token o ∷ tokens own) (signed o after_minus text tokens fits);
+      unsigned = λ rest allowed. unary-no-sign o (text own (is_minus o)) rest;
     })
 
 spaced-word : (rest : List ℕ) → Spaced rest → Ended rest
@@ -82,7 +85,7 @@ joins o left right ls rs a b =
     (both (blank-behind (codes " ") (λ rest. refl) a (λ rest. (refl, refl))) (operator o) (λ rest allowed spaced. tt)) (λ rest. (rest, refl)))
     b (λ rest allowed ended. tt)
 
-binary-no-sign : (o : BinaryOperator) (s rest : List ℕ) → NoSign (grouped (binary_level o) 7 s ++ rest)
+binary-no-sign : (o : BinaryOperator) (s rest : List ℕ) → NoSign (grouped (binary_level o) level.Sign s ++ rest)
 binary-no-sign binary.Implies s rest = (refl, refl)
 binary-no-sign _ s rest = (refl, refl)
 
@@ -96,7 +99,7 @@ binary-fits at o l r a b =
     (expression_tokens (expression.Binary at o l r)) (expression_tokens_step (opened.Binary at o (expression_tokens l) (expression_tokens r)))
     (text-Binary at o l r) (tokens-Binary at o l r) (record {
       written = λ wanted after_minus.
-          group (nat_lt (binary_level o) wanted) (left ++ codes " " ++ binary_text o ++ codes " " ++ right) (ls ++ binary_token o ∷ [] ++ rs)
+          group (is_looser (binary_level o) wanted) (left ++ codes " " ++ binary_text o ++ codes " " ++ right) (ls ++ binary_token o ∷ [] ++ rs)
           (joins o left right ls rs (a.written (left_level o) false) (b.written (right_level o) false));
       unsigned = λ rest allowed. binary-no-sign o (left ++ codes " " ++ binary_text o ++ codes " " ++ right) rest;
     })
@@ -107,7 +110,7 @@ quantified-fits at all x from below start body fits =
     (expression_tokens (expression.Quantified at all x from below start body)) (expression_tokens_step (opened.Quantified at all x from below start (expression_tokens body)))
     (text-Quantified at all x from below start body) (tokens-Quantified at all x from below start body) (record {
       written = λ wanted after_minus.
-          open_ended (both (both (quantification all x from below) (fits.written 0 false) (λ rest allowed ended. tt)) (closed mark.CloseParenthesis refl) (λ rest allowed any. (refl, refl)));
+          open_ended (both (both (quantification all x from below) (fits.written level.Implication false) (λ rest allowed ended. tt)) (closed mark.CloseParenthesis refl) (λ rest allowed any. (refl, refl)));
       unsigned = λ rest allowed. (refl, refl);
     })
 
@@ -123,9 +126,9 @@ field-fits x =
 
 index-fits : (start : Place) (x : Expression) → ExpressionFits x → PartFits (selector.Index start x)
 index-fits start x fits =
-    part-fits (selector.Index start x) (codes "[" ++ expression_text x 0 false ++ codes "]") (token.Mark mark.OpenBracket ∷ expression_tokens x 0 ++ token.Mark mark.CloseBracket ∷ [])
+    part-fits (selector.Index start x) (codes "[" ++ expression_text x level.Implication false ++ codes "]") (token.Mark mark.OpenBracket ∷ expression_tokens x level.Implication ++ token.Mark mark.CloseBracket ∷ [])
     (text-Index start x) (tokens-Index start x)
-    (open_ended (both (both (closed mark.OpenBracket refl) (fits.written 0 false) (λ rest allowed ended. tt)) (closed mark.CloseBracket refl) (λ rest allowed any. (refl, refl))))
+    (open_ended (both (both (closed mark.OpenBracket refl) (fits.written level.Implication false) (λ rest allowed ended. tt)) (closed mark.CloseBracket refl) (λ rest allowed any. (refl, refl))))
     (λ rest. (refl, refl))
 
 all-fit : (x : Expression) → ExpressionFits x
@@ -143,5 +146,5 @@ all-fit = of_each_expression ExpressionFits PartFits (record {
   index = index-fits;
 })
 
-pub expression_written : (x : Expression) → Writes Ended (expression_text x 0 false) (expression_tokens x 0)
-expression_written x = (all-fit x).written 0 false
+pub expression_written : (x : Expression) → Writes Ended (expression_text x level.Implication false) (expression_tokens x level.Implication)
+expression_written x = (all-fit x).written level.Implication false

@@ -3,6 +3,8 @@ use Rattle.std.proofs.Common.{◌≡◌, ℕ, Bool, true, false, List, [], ◌�
 use Rattle.std.proofs.lemmas.List.Elements.{All-head}
 use Rattle.std.specs.List.{flat_map}
 use Rattle.hw_text.specs.declared.place.Place.{Place}
+use Rattle.gumbo_parse.specs.declared.level.Level.TheVariants as level
+use Rattle.gumbo_parse.specs.declared.level.Level.{Level}
 use Rattle.gumbo_parse.specs.declared.expression.Expression.{Expression}
 use Rattle.gumbo_parse.specs.declared.expression.Expression.TheOpen as opened
 use Rattle.gumbo_parse.specs.declared.expression.Expression.TheVariants as expression
@@ -17,22 +19,23 @@ use Rattle.gumbo_parse.specs.declared.word.Word.TheVariants as word
 use Rattle.gumbo_parse.specs.Allowed.{IsAllowed, AreAllowed}
 use Rattle.gumbo_parse.specs.ExpressionTokens.{Written, truth_word, expression_tokens_step, expression_tokens, selector_tokens}
 use Rattle.gumbo_parse.specs.Operators.{test_word}
-use Rattle.gumbo_parse.specs.Printing.{Text, joined, truth_text, expression_step, expression_text, selector_text}
+use Rattle.gumbo_parse.specs.Printing.{Text, truth_text, expression_step, expression_text, selector_text}
 use Rattle.gumbo_parse.proofs.ExpressionInduction.{OfEach}
 use Rattle.gumbo_parse.proofs.ExpressionTexts.{text-Number, text-Truth, text-Value, text-Before, text-Test, text-MustSend}
 use Rattle.gumbo_parse.proofs.NumberTokens.{NoSign, number-no-sign}
 use Rattle.gumbo_parse.proofs.Pieces.{Ended, name, a_word, number, closed, name-no-sign}
 use Rattle.gumbo_parse.proofs.Phrases.{port}
 use Rattle.gumbo_parse.proofs.TokensOfExpressions.{tokens-Number, tokens-Truth, tokens-Value, tokens-Before, tokens-Test, tokens-MustSend}
-use Rattle.gumbo_parse.proofs.Written.{Writes, Anything, both, blank-behind, weaker, nothing}
+use Rattle.gumbo_parse.proofs.Written.{Writes}
+use Rattle.hw_reading.proofs.Written.{Anything, both, blank-behind, weaker, nothing}
 
 -- behind a minus it begins with no minus and no `>`, where it is as tight as a minus wants
 abbrev pub Unsigned : Text → Written → Type 0
-Unsigned text tokens = (rest : List ℕ) → AreAllowed (tokens 7) → NoSign (text 7 true ++ rest)
+Unsigned text tokens = (rest : List ℕ) → AreAllowed (tokens level.Sign) → NoSign (text level.Sign true ++ rest)
 
 -- in each place, a text with its tokens
 pub record Fits (text : Text) (tokens : Written) : Type 0 where
-  pub written : (wanted : ℕ) (after_minus : Bool) → Writes Ended (text wanted after_minus) (tokens wanted)
+  pub written : (wanted : Level) (after_minus : Bool) → Writes Ended (text wanted after_minus) (tokens wanted)
   pub unsigned : Unsigned text tokens
 
 pub record PartFits (s : Selector) : Type 0 where
@@ -70,12 +73,12 @@ truth-fits at b =
     (text-Truth at b) (tokens-Truth at b) (record { written = λ wanted after_minus. truth b; unsigned = λ rest allowed. truth-no-sign b rest })
 
 -- parts, one behind the other
-parts-ended : (ps : List Selector) → OfEach PartFits ps → (rest : List ℕ) → Ended rest → Ended (joined (map selector_text ps) ++ rest)
+parts-ended : (ps : List Selector) → OfEach PartFits ps → (rest : List ℕ) → Ended rest → Ended (flat_map (λ t. t) (map selector_text ps) ++ rest)
 parts-ended [] each rest ended = ended
 parts-ended (p ∷ ps) each rest ended =
-    subst Ended (sym (append_assoc (selector_text p) (joined (map selector_text ps)) rest)) (each.0.ended (joined (map selector_text ps) ++ rest))
+    subst Ended (sym (append_assoc (selector_text p) (flat_map (λ t. t) (map selector_text ps)) rest)) (each.0.ended (flat_map (λ t. t) (map selector_text ps) ++ rest))
 
-parts : (ps : List Selector) → OfEach PartFits ps → Writes Ended (joined (map selector_text ps)) (flat_map (λ ts. ts) (map selector_tokens ps))
+parts : (ps : List Selector) → OfEach PartFits ps → Writes Ended (flat_map (λ t. t) (map selector_text ps)) (flat_map (λ ts. ts) (map selector_tokens ps))
 parts [] each = nothing
 parts (p ∷ ps) each = both each.0.written (parts ps each.1) (λ rest allowed ended. parts-ended ps each.1 rest ended)
 
@@ -87,7 +90,7 @@ value-fits x ps each =
     (text-Value x ps) (tokens-Value x ps) (record {
       written = λ wanted after_minus. both (name x.name) (parts ps each) (λ rest allowed ended. parts-ended ps each rest ended);
       unsigned = λ rest allowed.
-          subst NoSign (sym (append_assoc x.name (joined texts) rest)) (name-no-sign x.name (joined texts ++ rest) (flat_map (λ ts. ts) tokens) allowed);
+          subst NoSign (sym (append_assoc x.name (flat_map (λ t. t) texts) rest)) (name-no-sign x.name (flat_map (λ t. t) texts ++ rest) (flat_map (λ ts. ts) tokens) allowed);
     })
 
 pub before-fits : (at : Place) (x : Named) (ps : List Selector) → OfEach PartFits ps → ExpressionFits (expression.Before at x ps)
@@ -100,7 +103,7 @@ before-fits at x ps each =
       unsigned = λ rest allowed. (refl, refl);
     })
 
-test-no-sign : (what : PortTest) (x : Named) (rest : List ℕ) → NoSign (expression_step (opened.Test (record { line = 1; column = 1 }) what x) 7 true ++ rest)
+test-no-sign : (what : PortTest) (x : Named) (rest : List ℕ) → NoSign (expression_step (opened.Test (record { line = 1; column = 1 }) what x) level.Sign true ++ rest)
 test-no-sign port_test.HasEvent x rest = (refl, refl)
 test-no-sign port_test.NoSend x rest = (refl, refl)
 test-no-sign port_test.MustSend x rest = (refl, refl)
@@ -122,7 +125,7 @@ must_send-fits at x start sent fits =
           (both (both (both (both (both (a_word word.MustSend) (closed mark.OpenParenthesis refl) (λ rest allowed any. (refl, refl)))
           (name x.name) (λ rest allowed ended. tt))
           (blank-behind (codes " ") (λ rest. refl) (closed mark.Comma refl) (λ rest. tt)) (λ rest allowed any. (refl, refl)))
-          (fits.written 0 false) (λ rest allowed ended. tt))
+          (fits.written level.Implication false) (λ rest allowed ended. tt))
           (closed mark.CloseParenthesis refl) (λ rest allowed any. (refl, refl)));
       unsigned = λ rest allowed. (refl, refl);
     })

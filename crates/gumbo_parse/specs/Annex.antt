@@ -2,6 +2,7 @@
 use Rattle.std.specs.Prelude.{ℕ, false, List, [], ◌∷◌, ◌++◌, codes, Option, Some, None, ⊤}
 use Rattle.std.specs.List.{flat_map}
 use Rattle.hw_text.specs.declared.place.Place.{Place}
+use Rattle.hw_reading.specs.Lists.{SomeOf}
 use Rattle.hw_text.specs.Language.{One, ◌⋅◌, Maybe, Each, Made}
 use Rattle.gumbo_parse.specs.declared.class.Variable.{Variable}
 use Rattle.gumbo_parse.specs.declared.contract.ClauseKind.{ClauseKind}
@@ -12,7 +13,10 @@ use Rattle.gumbo_parse.specs.declared.contract.Compute.{Compute}
 use Rattle.gumbo_parse.specs.declared.contract.Contract.{Contract}
 use Rattle.gumbo_parse.specs.declared.expression.Expression.{Expression}
 use Rattle.gumbo_parse.specs.declared.expression.Named.{Named}
+use Rattle.gumbo_parse.specs.declared.level.Level.TheVariants as level
 use Rattle.gumbo_parse.specs.declared.mark.Mark.TheVariants as mark
+use Rattle.gumbo_parse.specs.declared.shape.Shape.{Shape}
+use Rattle.gumbo_parse.specs.declared.shape.Shape.TheVariants as shape
 use Rattle.gumbo_parse.specs.declared.word.Word.{Word}
 use Rattle.gumbo_parse.specs.declared.word.Word.TheVariants as word
 use Rattle.gumbo_parse.specs.Classes.{SpellsVariable, variable_text}
@@ -25,8 +29,8 @@ abbrev pub clause_word : ClauseKind → Word
 clause_word Assume = word.Assume
 clause_word Guarantee = word.Guarantee
 
-abbrev pub kinds : List (List ℕ × ClauseKind)
-kinds = (codes "assume", Assume) ∷ (codes "guarantee", Guarantee) ∷ []
+abbrev pub kinds : List (Shape × ClauseKind)
+kinds = (shape.Word word.Assume, Assume) ∷ (shape.Word word.Guarantee, Guarantee) ∷ []
 
 abbrev pub ClauseParts : Type 0
 ClauseParts = (Place × ClauseKind) × (Named × (Option (List ℕ) × (Place × ((Place × Expression) × Place))))
@@ -44,20 +48,13 @@ clause_of p = record {
 abbrev pub SpellsClause : Clause → Tokens → Type 0
 SpellsClause = Made clause_of (One (one_listed kinds) ⋅ Name ⋅ Maybe (One text_of) ⋅ Sign mark.Colon ⋅ SpellsStarted ⋅ Sign mark.Semicolon)
 
-abbrev pub all_of : {X : Type 0} → X × List X → List X
-all_of p = p.0 ∷ p.1
-
--- x { x }
-abbrev pub SpellsSome : {X : Type 0} → (X → Tokens → Type 0) → List X → Tokens → Type 0
-SpellsSome A = Made all_of (A ⋅ Each A)
-
 abbrev pub or_none : {V X : Type 0} → Option (V × List X) → List X
 or_none None = []
 or_none (Some p) = p.1
 
 -- [ word x { x } ]
 abbrev pub SpellsSection : {V X : Type 0} → (V → Tokens → Type 0) → (X → Tokens → Type 0) → List X → Tokens → Type 0
-SpellsSection W A = Made or_none (Maybe (W ⋅ SpellsSome A))
+SpellsSection W A = Made or_none (Maybe (W ⋅ SomeOf A))
 
 abbrev pub SpellsState : List Variable → Tokens → Type 0
 SpellsState = SpellsSection (Keyword word.State) SpellsVariable
@@ -66,8 +63,8 @@ abbrev pub SpellsIntegration : List Clause → Tokens → Type 0
 SpellsIntegration = SpellsSection (Keyword word.Integration) SpellsClause
 
 -- the two spellings of one word
-abbrev pub initial : List (List ℕ × ⊤)
-initial = (codes "initialize", tt) ∷ (codes "initialise", tt) ∷ []
+abbrev pub initial : List (Shape × ⊤)
+initial = (shape.Word word.Initialize, tt) ∷ (shape.Word word.Initialise, tt) ∷ []
 
 abbrev pub SpellsInitialize : List Clause → Tokens → Type 0
 SpellsInitialize = SpellsSection (One (one_listed initial)) SpellsClause
@@ -104,7 +101,7 @@ description_text (Some text) = codes " \"" ++ text ++ codes "\""
 abbrev pub clause_text : Clause → List ℕ
 clause_text c =
     word_spelling (clause_word c.kind) ++ codes " " ++ c.name.name ++ description_text c.description ++ codes ": " ++
-    expression_text c.expression 0 false ++ line (codes ";")
+    expression_text c.expression level.Implication false ++ line (codes ";")
 
 abbrev pub clauses_text : List Clause → List ℕ
 clauses_text cs = flat_map clause_text cs

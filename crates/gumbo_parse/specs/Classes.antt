@@ -3,23 +3,25 @@ use Rattle.std.specs.Prelude.{ℕ, List, [], ◌∷◌, ◌++◌, codes, Option,
 use Rattle.std.specs.List.{flat_map}
 use Rattle.hw_text.specs.declared.place.Place.{Place}
 use Rattle.hw_text.specs.Language.{One, ◌⋅◌, Maybe, Each, Made, ◌∣◌}
-use Rattle.gumbo_parse.specs.declared.class.BaseType.{BaseType}
+use Rattle.hw_text.specs.declared.base_type.BaseType.{BaseType}
+use Rattle.hw_text.specs.BaseTypes.{base_name}
 use Rattle.gumbo_parse.specs.declared.class.Class.{Class}
 use Rattle.gumbo_parse.specs.declared.class.Class.TheVariants.{Base, Model}
 use Rattle.gumbo_parse.specs.declared.class.Variable.{Variable}
 use Rattle.gumbo_parse.specs.declared.class_name.ClassName.{ClassName}
 use Rattle.gumbo_parse.specs.declared.expression.Named.{Named}
 use Rattle.gumbo_parse.specs.declared.mark.Mark.TheVariants as mark
+use Rattle.gumbo_parse.specs.declared.shape.Shape.TheVariants as shape
 use Rattle.gumbo_parse.specs.ClassNames.{other_of}
 use Rattle.gumbo_parse.specs.Grammar.{Sign, Name}
-use Rattle.gumbo_parse.specs.Values.{Tokens, place_of, base_of, base_name}
+use Rattle.gumbo_parse.specs.Values.{Tokens, place_of, base_of}
 
 abbrev pub base_class : Place × (Place × BaseType) → Class
 base_class p = Base p.0 p.1.1
 
 -- "base_types" "::" BASE
 abbrev pub SpellsBase : Class → Tokens → Type 0
-SpellsBase = Made base_class (One (place_of (codes "base_types")) ⋅ Sign mark.DoubleColon ⋅ One base_of)
+SpellsBase = Made base_class (One (place_of shape.BasePackage) ⋅ Sign mark.DoubleColon ⋅ One base_of)
 
 abbrev pub name_behind : Place × Named → List ℕ
 name_behind p = p.1.name
@@ -56,9 +58,10 @@ abbrev pub implementation_text : Option (List ℕ) → List ℕ
 implementation_text None = []
 implementation_text (Some n) = codes "." ++ n
 
-unfoldable pub base_text : BaseType → List ℕ
+abbrev pub base_text : BaseType → List ℕ
 base_text base = codes "base_types::" ++ base_name base
 
+-- a reference to a type as it is written, in lower case
 abbrev pub class_text : Class → List ℕ
 class_text (Base at base) = base_text base
 class_text (Model m) = m.first.name ++ flat_map behind_colons m.others ++ implementation_text m.implementation

@@ -1,7 +1,8 @@
 -- The canonical tokens of contracts, one case for each production of the grammar (docs/formats/contracts.md).
 use Rattle.std.specs.Prelude.{ℕ, List, [], ◌∷◌, ◌++◌, codes, Option, Some, None}
 use Rattle.std.specs.List.{flat_map}
-use Rattle.gumbo_parse.specs.declared.class.BaseType.{BaseType}
+use Rattle.hw_text.specs.declared.base_type.BaseType.{BaseType}
+use Rattle.hw_text.specs.BaseTypes.{base_name}
 use Rattle.gumbo_parse.specs.declared.class.Class.{Class}
 use Rattle.gumbo_parse.specs.declared.class.Class.TheVariants.{Base, Model}
 use Rattle.gumbo_parse.specs.declared.class.Variable.{Variable}
@@ -9,6 +10,7 @@ use Rattle.gumbo_parse.specs.declared.contract.Clause.{Clause}
 use Rattle.gumbo_parse.specs.declared.contract.Handler.{Handler}
 use Rattle.gumbo_parse.specs.declared.contract.Compute.{Compute}
 use Rattle.gumbo_parse.specs.declared.contract.Contract.{Contract}
+use Rattle.gumbo_parse.specs.declared.level.Level.TheVariants as level
 use Rattle.gumbo_parse.specs.declared.mark.Mark.TheVariants as mark
 use Rattle.gumbo_parse.specs.declared.token.Token.{Token}
 use Rattle.gumbo_parse.specs.declared.token.Token.TheVariants as token
@@ -16,7 +18,6 @@ use Rattle.gumbo_parse.specs.declared.word.Word.{Word}
 use Rattle.gumbo_parse.specs.declared.word.Word.TheVariants as word
 use Rattle.gumbo_parse.specs.Annex.{clause_word}
 use Rattle.gumbo_parse.specs.ExpressionTokens.{expression_tokens}
-use Rattle.gumbo_parse.specs.Values.{base_name}
 
 -- "::" NAME
 abbrev pub step_tokens : List ℕ → List Token
@@ -49,7 +50,7 @@ description_tokens (Some d) = token.Text d ∷ []
 abbrev pub clause_tokens : Clause → List Token
 clause_tokens c =
     token.Word (clause_word c.kind) ∷ token.Name c.name.name ∷ description_tokens c.description ++ token.Mark mark.Colon ∷ [] ++
-    expression_tokens c.expression 0 ++ token.Mark mark.Semicolon ∷ []
+    expression_tokens c.expression level.Implication ++ token.Mark mark.Semicolon ∷ []
 
 -- nothing for no member, and else the word and the members
 abbrev pub section_tokens : {X : Type 0} → Word → (X → List Token) → List X → List Token

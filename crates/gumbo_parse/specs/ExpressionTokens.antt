@@ -1,5 +1,5 @@
 -- The canonical tokens of expressions, one case for each production of the grammar (docs/formats/contracts.md).
-use Rattle.std.specs.Prelude.{ℕ, nat_lt, Bool, if◌then◌else◌, List, [], ◌∷◌, ◌++◌}
+use Rattle.std.specs.Prelude.{Bool, if◌then◌else◌, List, [], ◌∷◌, ◌++◌}
 use Rattle.std.specs.List.{flat_map}
 use Rattle.gumbo_parse.specs.declared.mark.Mark.TheVariants as mark
 use Rattle.gumbo_parse.specs.declared.token.Token.{Token}
@@ -18,18 +18,21 @@ use Rattle.gumbo_parse.specs.declared.expression.Expression.{Expression}
 use Rattle.gumbo_parse.specs.declared.expression.Expression.TheOpen.{Expression-F, Selector-F}
 use Rattle.gumbo_parse.specs.declared.expression.Expression.TheOpen as e
 use Rattle.gumbo_parse.specs.declared.expression.Expression.TheFolds.{fold-Expression, fold-Selector}
-use Rattle.gumbo_parse.specs.Operators.{unary_level, binary_level, left_level, right_level, quantifier_word, test_word}
+use Rattle.gumbo_parse.specs.declared.level.Level.{Level}
+use Rattle.gumbo_parse.specs.declared.level.Level.TheVariants as level
+use Rattle.gumbo_parse.specs.Levels.{is_looser, unary_level, binary_level, left_level, right_level}
+use Rattle.gumbo_parse.specs.Operators.{quantifier_word, test_word}
 
--- the tokens of an expression, for the least level that its place wants
+-- the tokens of an expression, for the loosest level that its place wants
 abbrev pub Written : Type 0
-Written = ℕ → List Token
+Written = Level → List Token
 
 abbrev pub in_parentheses : List Token → List Token
 in_parentheses ts = token.Mark mark.OpenParenthesis ∷ ts ++ token.Mark mark.CloseParenthesis ∷ []
 
--- in parentheses where the level of an expression is below that which its place wants
-abbrev pub grouped_tokens : ℕ → ℕ → List Token → List Token
-grouped_tokens own wanted ts = if nat_lt own wanted then in_parentheses ts else ts
+-- in parentheses where an expression is looser than its place wants it
+abbrev pub grouped_tokens : Level → Level → List Token → List Token
+grouped_tokens own wanted ts = if is_looser own wanted then in_parentheses ts else ts
 
 abbrev pub truth_word : Bool → Word
 truth_word b = if b then word.True else word.False
@@ -79,17 +82,17 @@ expression_tokens_step (e.Value x parts) wanted = token.Name x.name ∷ flat_map
 expression_tokens_step (e.Before at x parts) wanted = port_tokens word.In x ++ flat_map (λ ts. ts) parts
 expression_tokens_step (e.Test at what x) wanted = port_tokens (test_word what) x
 expression_tokens_step (e.MustSend at x start sent) wanted =
-    token.Word word.MustSend ∷ token.Mark mark.OpenParenthesis ∷ token.Name x.name ∷ token.Mark mark.Comma ∷ sent 0 ++ token.Mark mark.CloseParenthesis ∷ []
+    token.Word word.MustSend ∷ token.Mark mark.OpenParenthesis ∷ token.Name x.name ∷ token.Mark mark.Comma ∷ sent level.Implication ++ token.Mark mark.CloseParenthesis ∷ []
 expression_tokens_step (e.Unary at operator x) wanted = grouped_tokens (unary_level operator) wanted (unary_token operator ∷ x (unary_level operator))
 expression_tokens_step (e.Binary at operator l r) wanted =
     grouped_tokens (binary_level operator) wanted (l (left_level operator) ++ binary_token operator ∷ [] ++ r (right_level operator))
 expression_tokens_step (e.Quantified at all x from below start body) wanted =
-    token.Mark mark.OpenParenthesis ∷ quantification_tokens all x from below ++ body 0 ++ token.Mark mark.CloseParenthesis ∷ []
+    token.Mark mark.OpenParenthesis ∷ quantification_tokens all x from below ++ body level.Implication ++ token.Mark mark.CloseParenthesis ∷ []
 
 -- "." NAME | "[" expression "]"
 abbrev pub selector_tokens_step : Selector-F Written (List Token) → List Token
 selector_tokens_step (e.Field x) = token.Mark mark.Dot ∷ token.Name x.name ∷ []
-selector_tokens_step (e.Index start index) = token.Mark mark.OpenBracket ∷ index 0 ++ token.Mark mark.CloseBracket ∷ []
+selector_tokens_step (e.Index start index) = token.Mark mark.OpenBracket ∷ index level.Implication ++ token.Mark mark.CloseBracket ∷ []
 
 abbrev pub expression_tokens : Expression → Written
 expression_tokens x = fold-Expression Written (List Token) expression_tokens_step selector_tokens_step x

@@ -1,6 +1,10 @@
 -- What is wrong with a token with which the grammar goes on: it is a bracket inside too many others, or stands behind too many tokens of the
 -- expression of a clause (docs/formats/contracts.md).
-use Rattle.std.specs.Prelude.{ℕ, ◌+◌, ◌-◌, nat_lt, slice_get, option_and_then, if◌then◌else◌, [], ◌∷◌, take, Option, Some, None}
+use Rattle.std.specs.Prelude.{ℕ, ◌+◌, nat_lt, slice_get, option_and_then, if◌then◌else◌, [], ◌∷◌, take, Option, Some, None}
+use Rattle.hw_reading.specs.declared.bracket.Bracket.{Bracket}
+use Rattle.hw_reading.specs.declared.bracket.Bracket.TheVariants.{Opens, Closes, Neither}
+use Rattle.hw_reading.specs.Brackets.{open_behind_one}
+use Rattle.hw_reading.specs.Brackets as brackets
 use Rattle.gumbo_parse.specs.declared.flaw.Flaw.{Flaw}
 use Rattle.gumbo_parse.specs.declared.flaw.Flaw.TheVariants.{TooDeep, TooLong}
 use Rattle.gumbo_parse.specs.declared.flaw.Spot.{Spot}
@@ -12,22 +16,21 @@ use Rattle.gumbo_parse.specs.declared.token.Token.TheVariants as token
 use Rattle.gumbo_parse.specs.declared.word.Word.TheVariants as word
 use Rattle.gumbo_parse.specs.Values.{Tokens}
 
--- how many brackets are open behind a mark, so many being open before it
-abbrev pub open_behind_mark : ℕ → Mark → ℕ
-open_behind_mark n mark.OpenParenthesis = n + 1
-open_behind_mark n mark.OpenBracket = n + 1
-open_behind_mark n mark.CloseParenthesis = n - 1
-open_behind_mark n mark.CloseBracket = n - 1
-open_behind_mark n _ = n
+-- parentheses and brackets
+abbrev pub bracket_of : Token → Bracket
+bracket_of (token.Mark mark.OpenParenthesis) = Opens
+bracket_of (token.Mark mark.OpenBracket) = Opens
+bracket_of (token.Mark mark.CloseParenthesis) = Closes
+bracket_of (token.Mark mark.CloseBracket) = Closes
+bracket_of _ = Neither
 
+-- how many brackets are open behind a token, so many being open before it
 abbrev pub open_behind_token : ℕ → Token → ℕ
-open_behind_token n (token.Mark m) = open_behind_mark n m
-open_behind_token n _ = n
+open_behind_token n t = open_behind_one n (bracket_of t)
 
 -- how many brackets are open behind these tokens, so many being open before them
 abbrev pub open_behind : ℕ → Tokens → ℕ
-open_behind n [] = n
-open_behind n (t ∷ ts) = open_behind (open_behind_token n t.token) ts
+open_behind = brackets.open_behind bracket_of
 
 -- a token more of the expression, within one
 abbrev pub one_further : Spot → Spot

@@ -1,5 +1,5 @@
 -- The grammar of expressions: which tokens spell a tree. Parentheses are no part of it (docs/formats/contracts.md).
-use Rattle.std.specs.Prelude.{◌≡◌, ℕ, Bool, true, false, is_some, List, [], ◌∷◌, ◌++◌, codes, Option, Some, None}
+use Rattle.std.specs.Prelude.{◌≡◌, ℕ, Bool, true, false, is_some, List, [], ◌∷◌, ◌++◌, Option, Some, None}
 use Rattle.hw_text.specs.declared.place.Place.{Place}
 use Rattle.hw_text.specs.Language.{One, ◌⋅◌, Maybe, Made}
 use Rattle.gumbo_parse.specs.declared.expression.Named.{Named}
@@ -24,30 +24,30 @@ use Rattle.gumbo_parse.specs.declared.operator.PortTest.TheVariants as test
 use Rattle.gumbo_parse.specs.declared.word.Word.{Word}
 use Rattle.gumbo_parse.specs.declared.word.Word.TheVariants as word
 use Rattle.gumbo_parse.specs.Levels.{next, right, form_of, infixes, prefixes}
-use Rattle.gumbo_parse.specs.Marks.{mark_spelling}
 use Rattle.gumbo_parse.specs.Values.{Tokens, place_of, one_listed, name_of, number_of}
-use Rattle.gumbo_parse.specs.Words.{word_spelling}
+use Rattle.gumbo_parse.specs.declared.shape.Shape.{Shape}
+use Rattle.gumbo_parse.specs.declared.shape.Shape.TheVariants as shape
 
 -- this mark
 abbrev pub Sign : Mark → Place → Tokens → Type 0
-Sign m = One (place_of (mark_spelling m))
+Sign m = One (place_of (shape.Mark m))
 
 -- this word
 abbrev pub Keyword : Word → Place → Tokens → Type 0
-Keyword w = One (place_of (word_spelling w))
+Keyword w = One (place_of (shape.Word w))
 
 abbrev pub Name : Named → Tokens → Type 0
 Name = One name_of
 
-abbrev pub truths : List (List ℕ × Bool)
-truths = (codes "true", true) ∷ (codes "false", false) ∷ []
+abbrev pub truths : List (Shape × Bool)
+truths = (shape.Word word.True, true) ∷ (shape.Word word.False, false) ∷ []
 
 -- what is asked of a port alone
-abbrev pub tests : List (List ℕ × PortTest)
-tests = (codes "HasEvent", test.HasEvent) ∷ (codes "NoSend", test.NoSend) ∷ []
+abbrev pub tests : List (Shape × PortTest)
+tests = (shape.Word word.HasEvent, test.HasEvent) ∷ (shape.Word word.NoSend, test.NoSend) ∷ []
 
-abbrev pub quantifiers : List (List ℕ × Quantifier)
-quantifiers = (codes "forall", ForAll) ∷ (codes "exists", Exists) ∷ []
+abbrev pub quantifiers : List (Shape × Quantifier)
+quantifiers = (shape.Word word.ForAll, ForAll) ∷ (shape.Word word.Exists, Exists) ∷ []
 
 abbrev pub number_at : Place × ℕ → Expression
 number_at p = Number p.0 p.1
@@ -123,17 +123,17 @@ abbrev pub start_of : Tokens → Place
 start_of [] = record { line = 0; column = 0 }
 start_of (t ∷ ts) = t.place
 
-abbrev pub joined : Expression → Operation → Expression
-joined x o = Binary o.place o.operator x o.operand
+abbrev pub applied : Expression → Operation → Expression
+applied x o = Binary o.place o.operator x o.operand
 
 -- operations on an expression, from the left
 abbrev pub chained : Expression → List Operation → Expression
 chained x [] = x
-chained x (o ∷ os) = chained (joined x o) os
+chained x (o ∷ os) = chained (applied x o) os
 
 -- one operation on an expression, or none
 abbrev pub paired : Expression × Option Operation → Expression
-paired p = elim p.1 [ None ↦ p.0 | Some o ↦ joined p.0 o ]
+paired p = elim p.1 [ None ↦ p.0 | Some o ↦ applied p.0 o ]
 
 abbrev pub operation_of : (Place × BinaryOperator) × Expression → Operation
 operation_of p = record { place = p.0.0; operator = p.0.1; operand = p.1 }

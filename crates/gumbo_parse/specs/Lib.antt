@@ -15,6 +15,7 @@ pub mod Printed
 pub mod Printing
 pub mod Refusals
 pub mod Rules
+pub mod ShapeSamples
 pub mod Tokens
 pub mod Unplaced
 pub mod Values

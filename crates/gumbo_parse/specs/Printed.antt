@@ -5,6 +5,7 @@ use Rattle.gumbo_parse.specs.declared.contract.Clause.{Clause}
 use Rattle.gumbo_parse.specs.declared.contract.Handler.{Handler}
 use Rattle.gumbo_parse.specs.declared.contract.Compute.{Compute}
 use Rattle.gumbo_parse.specs.declared.contract.Contract.{Contract}
+use Rattle.gumbo_parse.specs.declared.level.Level.TheVariants as level
 use Rattle.gumbo_parse.specs.declared.token.Token.{Token}
 use Rattle.gumbo_parse.specs.ContractTokens.{contract_tokens}
 use Rattle.gumbo_parse.specs.ExpressionTokens.{expression_tokens}
@@ -28,7 +29,7 @@ at_start ts = map (λ t. record { token = t; place = start }) ts
 
 -- its expression has at most 500 tokens
 abbrev pub IsShort : Clause → Type 0
-IsShort c = length (expression_tokens c.expression 0) ≤ 500
+IsShort c = length (expression_tokens c.expression level.Implication) ≤ 500
 
 -- behind no token of the canonical text more than 64 brackets are open, and each clause's expression has at most 500 tokens
 pub record IsWithinLimits (c : Contract) : Type 0 where

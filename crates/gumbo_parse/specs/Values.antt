@@ -1,17 +1,17 @@
 -- What the grammar sees of tokens: their shapes, and what they stand for (this project's own).
-use Rattle.std.specs.Prelude.{ℕ, Bool, true, false, ◌&&◌, not, if◌then◌else◌, List, [], ◌∷◌, map, codes, Option, Some, None}
-use Rattle.std.specs.List.{list_any}
+use Rattle.std.specs.Prelude.{ℕ, Bool, List, [], ◌∷◌, codes, if◌then◌else◌, Option, Some, None}
 use Rattle.std.specs.Str.{bytes_eq}
+use Rattle.hw_text.specs.declared.base_type.BaseType.{BaseType}
 use Rattle.hw_text.specs.declared.place.Place.{Place}
 use Rattle.hw_text.specs.declared.placed.Placed.{Placed}
-use Rattle.hw_text.specs.Reading.{BeginsWithout}
+use Rattle.hw_text.specs.BaseTypes.{base_named}
+use Rattle.hw_reading.specs.Shapes as shapes
+use Rattle.gumbo_parse.specs.contracts.shape.ShapePartialEq.TheImpl.{ghosts}
 use Rattle.gumbo_parse.specs.declared.token.Token.{Token}
 use Rattle.gumbo_parse.specs.declared.token.Token.TheVariants as token
 use Rattle.gumbo_parse.specs.declared.expression.Named.{Named}
-use Rattle.gumbo_parse.specs.declared.class.BaseType.{BaseType}
-use Rattle.gumbo_parse.specs.declared.class.BaseType.TheVariants.{Boolean, Integer8, Integer16, Integer32, Integer64, Unsigned8, Unsigned16, Unsigned32, Unsigned64}
-use Rattle.gumbo_parse.specs.Marks.{mark_spelling}
-use Rattle.gumbo_parse.specs.Words.{word_spelling}
+use Rattle.gumbo_parse.specs.declared.shape.Shape.{Shape}
+use Rattle.gumbo_parse.specs.declared.shape.Shape.TheVariants as shape
 
 abbrev pub Tokens : Type 0
 Tokens = List (Placed Token)
@@ -20,52 +20,38 @@ Tokens = List (Placed Token)
 abbrev pub is_base_package : List ℕ → Bool
 is_base_package n = bytes_eq n (codes "base_types")
 
--- the spelling of a word or mark, and the kind of another token; the name `base_types` has a shape of its own, since behind it stands a
--- base type in a class
-abbrev pub shape : Token → List ℕ
-shape (token.Name n) = if is_base_package n then codes "base_types" else codes "NAME"
-shape (token.Word w) = word_spelling w
-shape token.Reserved = codes "RESERVED"
-shape (token.Number v) = codes "INT"
-shape (token.Text d) = codes "STRING"
-shape (token.Mark m) = mark_spelling m
+-- which word or mark a token is, and of which kind another one; the name `base_types` has a shape of its own, since behind it stands a base
+-- type in a class
+abbrev pub shape_of : Token → Shape
+shape_of (token.Name n) = if is_base_package n then shape.BasePackage else shape.Name
+shape_of (token.Word w) = shape.Word w
+shape_of token.Reserved = shape.Reserved
+shape_of (token.Number v) = shape.Number
+shape_of (token.Text d) = shape.Text
+shape_of (token.Mark m) = shape.Mark m
+
+abbrev pub same_shape : Shape → Shape → Bool
+same_shape a b = ghosts.eq a b
 
 -- whether the token has one of these shapes
-abbrev pub one_of : List (List ℕ) → Placed Token → Bool
-one_of shapes t = list_any (bytes_eq (shape t.token)) shapes
+abbrev pub one_of : List Shape → Placed Token → Bool
+one_of = shapes.one_of shape_of same_shape
 
 -- what stands behind begins with no token of these shapes
-abbrev pub Without : List (List ℕ) → Tokens → Type 0
-Without shapes = BeginsWithout (one_of shapes)
+abbrev pub Without : List Shape → Tokens → Type 0
+Without = shapes.Without shape_of same_shape
 
 -- no shape is in both lists
-abbrev pub is_disjoint : List (List ℕ) → List (List ℕ) → Bool
-is_disjoint xs [] = true
-is_disjoint xs (y ∷ ys) = not (list_any (bytes_eq y) xs) && is_disjoint xs ys
-
--- what the spelling stands for in a list of spellings
-abbrev pub listed : {X : Type 0} → List (List ℕ × X) → List ℕ → Option X
-listed [] s = None
-listed (row ∷ rows) s = if bytes_eq s row.0 then Some row.1 else listed rows s
-
-abbrev pub texts : {X : Type 0} → List (List ℕ × X) → List (List ℕ)
-texts rows = map (λ row. row.0) rows
-
-abbrev pub beside : {X : Type 0} → Place → Option X → Option (Place × X)
-beside at None = None
-beside at (Some x) = Some (at, x)
+abbrev pub is_disjoint : List Shape → List Shape → Bool
+is_disjoint = shapes.is_disjoint same_shape
 
 -- where a word or mark of the list stands, and what it stands for
-abbrev pub one_listed : {X : Type 0} → List (List ℕ × X) → Placed Token → Option (Place × X)
-one_listed rows t = beside t.place (listed rows (shape t.token))
+abbrev pub one_listed : {X : Type 0} → List (Shape × X) → Placed Token → Option (Place × X)
+one_listed rows = shapes.one_listed shape_of same_shape rows
 
--- where the word or mark of this spelling stands
-abbrev pub at_if : Bool → Place → Option Place
-at_if true at = Some at
-at_if false at = None
-
-abbrev pub place_of : List ℕ → Placed Token → Option Place
-place_of text t = at_if (bytes_eq (shape t.token) text) t.place
+-- where the word or mark of this shape stands
+abbrev pub place_of : Shape → Placed Token → Option Place
+place_of = shapes.place_of shape_of same_shape
 
 abbrev pub name_in : Token → Place → Option Named
 name_in (token.Name n) at = Some (record { name = n; place = at })
@@ -74,8 +60,8 @@ name_in _ at = None
 abbrev pub name_of : Placed Token → Option Named
 name_of t = name_in t.token t.place
 
-abbrev pub name_shapes : List (List ℕ)
-name_shapes = codes "NAME" ∷ codes "base_types" ∷ []
+abbrev pub name_shapes : List Shape
+name_shapes = shape.Name ∷ shape.BasePackage ∷ []
 
 -- a whole number, and where it stands
 abbrev pub number_in : Token → Place → Option (Place × ℕ)
@@ -92,28 +78,9 @@ text_in _ = None
 abbrev pub text_of : Placed Token → Option (List ℕ)
 text_of t = text_in t.token
 
-abbrev pub base_name : BaseType → List ℕ
-base_name Boolean = codes "boolean"
-base_name Integer8 = codes "integer_8"
-base_name Integer16 = codes "integer_16"
-base_name Integer32 = codes "integer_32"
-base_name Integer64 = codes "integer_64"
-base_name Unsigned8 = codes "unsigned_8"
-base_name Unsigned16 = codes "unsigned_16"
-base_name Unsigned32 = codes "unsigned_32"
-base_name Unsigned64 = codes "unsigned_64"
-
-abbrev pub all_bases : List BaseType
-all_bases = Boolean ∷ Integer8 ∷ Integer16 ∷ Integer32 ∷ Integer64 ∷ Unsigned8 ∷ Unsigned16 ∷ Unsigned32 ∷ Unsigned64 ∷ []
-
--- the first of these types that has this name
-abbrev pub base_among : List BaseType → List ℕ → Option BaseType
-base_among [] n = None
-base_among (b ∷ bs) n = if bytes_eq n (base_name b) then Some b else base_among bs n
-
 -- the base type that a name is
 abbrev pub base_in : Token → Option BaseType
-base_in (token.Name n) = base_among all_bases n
+base_in (token.Name n) = base_named n
 base_in _ = None
 
 abbrev pub base_of : Placed Token → Option BaseType

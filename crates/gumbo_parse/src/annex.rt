@@ -12,6 +12,7 @@ ghost use Rattle.gumbo_parse.specs.Lexed.{HasTokens};
 use crate::class::Variable;
 use crate::contract::{Clause, Compute, Contract, Handler};
 use crate::description::Description;
+use crate::level::Level;
 use crate::print_class::print_variables;
 use crate::word::Word;
 use hw_text::{NoMemory, TextBuf};
@@ -133,7 +134,7 @@ impl Clause {
         out.word(self.name.name.rows())?;
         print_description(out, &self.description)?;
         out.word(b": ")?;
-        self.expression.print(out, 0, false)?;
+        self.expression.print(out, Level::Implication, false)?;
         print_line(out, ";")
     }
 }

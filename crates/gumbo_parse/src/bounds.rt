@@ -3,31 +3,31 @@
 ghost use Rattle.std.specs.Prelude.{[], ◌∷◌};
 ghost use Rattle.hw_text.specs.Language.{Maybe};
 ghost use Rattle.hw_text.specs.Reading.{Reads, Anything};
+ghost use Rattle.gumbo_parse.specs.declared.shape.Shape.TheVariants as shape;
 ghost use Rattle.gumbo_parse.specs.declared.mark.Mark.TheVariants as mark;
 ghost use Rattle.gumbo_parse.specs.Grammar.{Sign, SpellsBound, SpellsQuantification};
-ghost use Rattle.gumbo_parse.specs.Marks.{mark_spelling};
 ghost use Rattle.gumbo_parse.specs.Values.{Without};
 
 use crate::expression::Bound;
-use crate::leaf::read_one;
 use crate::mark::Mark;
 use crate::quantification::Quantification;
-use crate::symbols::{keyword, sign, stands_sign};
-use crate::table::{Listed, Quantifiers};
+use crate::shape::Shape;
+use crate::tables::QUANTIFIERS;
 use crate::terminals::{NameAt, NumberAt};
 use crate::token::Token;
 use crate::word::Word;
+use hw_reading::{read_listed, read_one, stands, symbol};
 use hw_text::{Cursor, Place, Placed, ReadFault};
 use std::alloc::Global;
 
 /// Reads a minus, where one is ahead.
 fn minus(tokens: &mut Cursor<'_, Placed<Token>>) -> Result<Option<Place>, ReadFault>
-    ensures { Reads (Maybe (Sign mark.Minus)) (Without (mark_spelling mark.Minus ∷ [])) tokens.old tokens.new result }
+    ensures { Reads (Maybe (Sign mark.Minus)) (Without (shape.Mark mark.Minus ∷ [])) tokens.old tokens.new result }
 {
-    if !stands_sign(tokens, Mark::Minus) {
+    if !stands(tokens, Shape::Mark(Mark::Minus)) {
         return Ok(None);
     }
-    let place = sign(tokens, Mark::Minus)?;
+    let place = symbol(tokens, Shape::Mark(Mark::Minus))?;
     Ok(Some(place))
 }
 
@@ -51,13 +51,13 @@ pub fn quantification(
 ) -> Result<Quantification, ReadFault>
     ensures { Reads SpellsQuantification Anything tokens.old tokens.new result }
 {
-    let (place, quantifier) = read_one::<Listed<Quantifiers>>(alloc, tokens)?;
+    let (place, quantifier) = read_listed(tokens, &QUANTIFIERS)?;
     let variable = read_one::<NameAt>(alloc, tokens)?;
-    keyword(tokens, Word::In)?;
+    symbol(tokens, Shape::Word(Word::In))?;
     let from = bound(alloc, tokens)?;
-    sign(tokens, Mark::Below)?;
+    symbol(tokens, Shape::Mark(Mark::Below))?;
     let below = bound(alloc, tokens)?;
-    sign(tokens, Mark::Colon)?;
+    symbol(tokens, Shape::Mark(Mark::Colon))?;
     Ok(Quantification {
         place,
         quantifier,

@@ -7,7 +7,7 @@ use crate::identifier::Identifier;
 use hw_text::Place;
 
 /// A name other than `base_types`, behind which only a base type may stand, and where it stands.
-#[derive(Debug, Drop)]
+#[derive(Drop)]
 pub struct ClassName {
     pub name: Identifier,
     pub place: Place,

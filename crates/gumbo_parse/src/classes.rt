@@ -3,18 +3,18 @@
 ghost use Rattle.std.specs.Prelude.{[], ◌∷◌, ◌++◌, codes};
 ghost use Rattle.hw_text.specs.Language.{Maybe, Each, Made};
 ghost use Rattle.hw_text.specs.Reading.{Reads, Anything};
+ghost use Rattle.gumbo_parse.specs.declared.shape.Shape.TheVariants as shape;
 ghost use Rattle.gumbo_parse.specs.declared.mark.Mark.TheVariants as mark;
 ghost use Rattle.gumbo_parse.specs.Classes.{SpellsBase, SpellsStep, SpellsImplementation, SpellsModel, SpellsClass, SpellsVariable};
-ghost use Rattle.gumbo_parse.specs.Marks.{mark_spelling};
 ghost use Rattle.gumbo_parse.specs.Values.{Without, name_shapes};
 
 use crate::class::{Class, ModelType, Variable};
 use crate::identifier::Identifier;
-use crate::leaf::{read_one, stands};
 use crate::mark::Mark;
-use crate::symbols::{base_types, sign, stands_base_types, stands_sign};
+use crate::shape::Shape;
 use crate::terminals::{BaseAt, NameAt, OtherNameAt};
 use crate::token::Token;
+use hw_reading::{read_one, stands, stands_either, symbol};
 use hw_text::{Cursor, Placed, ReadFault, Rows};
 use std::alloc::Global;
 
@@ -22,8 +22,8 @@ use std::alloc::Global;
 fn base(alloc: Global, tokens: &mut Cursor<'_, Placed<Token>>) -> Result<Class, ReadFault>
     ensures { Reads SpellsBase Anything tokens.old tokens.new result }
 {
-    let place = base_types(tokens)?;
-    sign(tokens, Mark::DoubleColon)?;
+    let place = symbol(tokens, Shape::BasePackage)?;
+    symbol(tokens, Shape::Mark(Mark::DoubleColon))?;
     let base = read_one::<BaseAt>(alloc, tokens)?;
     Ok(Class::Base(place, base))
 }
@@ -32,7 +32,7 @@ fn base(alloc: Global, tokens: &mut Cursor<'_, Placed<Token>>) -> Result<Class, 
 fn step(alloc: Global, tokens: &mut Cursor<'_, Placed<Token>>) -> Result<Identifier, ReadFault>
     ensures { Reads SpellsStep Anything tokens.old tokens.new result }
 {
-    sign(tokens, Mark::DoubleColon)?;
+    symbol(tokens, Shape::Mark(Mark::DoubleColon))?;
     let named = read_one::<NameAt>(alloc, tokens)?;
     Ok(named.name)
 }
@@ -42,10 +42,10 @@ fn steps(
     alloc: Global,
     tokens: &mut Cursor<'_, Placed<Token>>,
 ) -> Result<Rows<Identifier>, ReadFault>
-    ensures { Reads (Each SpellsStep) (Without (mark_spelling mark.DoubleColon ∷ [])) tokens.old tokens.new result }
+    ensures { Reads (Each SpellsStep) (Without (shape.Mark mark.DoubleColon ∷ [])) tokens.old tokens.new result }
 {
     let mut names = Rows::new(alloc);
-    'names: while stands_sign(tokens, Mark::DoubleColon) {
+    'names: while stands(tokens, Shape::Mark(Mark::DoubleColon)) {
         let name = step(alloc, tokens)?;
         names.push(name)?;
     }
@@ -56,7 +56,7 @@ fn steps(
 fn dotted(alloc: Global, tokens: &mut Cursor<'_, Placed<Token>>) -> Result<Identifier, ReadFault>
     ensures { Reads SpellsImplementation Anything tokens.old tokens.new result }
 {
-    sign(tokens, Mark::Dot)?;
+    symbol(tokens, Shape::Mark(Mark::Dot))?;
     let named = read_one::<NameAt>(alloc, tokens)?;
     Ok(named.name)
 }
@@ -66,9 +66,9 @@ fn implementation(
     alloc: Global,
     tokens: &mut Cursor<'_, Placed<Token>>,
 ) -> Result<Option<Identifier>, ReadFault>
-    ensures { Reads (Maybe SpellsImplementation) (Without (mark_spelling mark.Dot ∷ [])) tokens.old tokens.new result }
+    ensures { Reads (Maybe SpellsImplementation) (Without (shape.Mark mark.Dot ∷ [])) tokens.old tokens.new result }
 {
-    if !stands_sign(tokens, Mark::Dot) {
+    if !stands(tokens, Shape::Mark(Mark::Dot)) {
         return Ok(None);
     }
     let name = dotted(alloc, tokens)?;
@@ -77,7 +77,7 @@ fn implementation(
 
 /// Reads a type of the model's own.
 fn model(alloc: Global, tokens: &mut Cursor<'_, Placed<Token>>) -> Result<Class, ReadFault>
-    ensures { Reads SpellsModel (Without (mark_spelling mark.DoubleColon ∷ mark_spelling mark.Dot ∷ [])) tokens.old tokens.new result }
+    ensures { Reads SpellsModel (Without (shape.Mark mark.DoubleColon ∷ shape.Mark mark.Dot ∷ [])) tokens.old tokens.new result }
 {
     let first = read_one::<OtherNameAt>(alloc, tokens)?;
     let others = steps(alloc, tokens)?;
@@ -91,9 +91,9 @@ fn model(alloc: Global, tokens: &mut Cursor<'_, Placed<Token>>) -> Result<Class,
 
 /// Reads the type of a state variable.
 fn class(alloc: Global, tokens: &mut Cursor<'_, Placed<Token>>) -> Result<Class, ReadFault>
-    ensures { Reads SpellsClass (Without (mark_spelling mark.DoubleColon ∷ mark_spelling mark.Dot ∷ [])) tokens.old tokens.new result }
+    ensures { Reads SpellsClass (Without (shape.Mark mark.DoubleColon ∷ shape.Mark mark.Dot ∷ [])) tokens.old tokens.new result }
 {
-    if stands_base_types(tokens) {
+    if stands(tokens, Shape::BasePackage) {
         return base(alloc, tokens);
     }
     model(alloc, tokens)
@@ -107,9 +107,9 @@ pub fn variable(
     ensures { Reads SpellsVariable Anything tokens.old tokens.new result }
 {
     let name = read_one::<NameAt>(alloc, tokens)?;
-    sign(tokens, Mark::Colon)?;
+    symbol(tokens, Shape::Mark(Mark::Colon))?;
     let class = class(alloc, tokens)?;
-    sign(tokens, Mark::Semicolon)?;
+    symbol(tokens, Shape::Mark(Mark::Semicolon))?;
     Ok(Variable { name, class })
 }
 
@@ -122,7 +122,7 @@ pub fn more_variables(
     ensures { Reads (Made (λ later. earlier ++ later) (Each SpellsVariable)) (Without name_shapes) tokens.old tokens.new result }
 {
     let mut variables = earlier;
-    'variables: while stands::<NameAt>(tokens) {
+    'variables: while stands_either(tokens, Shape::Name, Shape::BasePackage) {
         let variable = variable(alloc, tokens)?;
         variables.push(variable)?;
     }

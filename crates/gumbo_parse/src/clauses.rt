@@ -1,56 +1,33 @@
 //! Reading clauses.
 
-ghost use Rattle.std.specs.Prelude.{◌≡◌, ℕ, List, [], ◌∷◌, ◌++◌, codes, refl, Some};
-ghost use Rattle.hw_text.specs.declared.place.Place.{Place};
+ghost use Rattle.std.specs.Prelude.{[], ◌∷◌, ◌++◌};
 ghost use Rattle.hw_text.specs.Language.{One, Maybe, Each, Made};
 ghost use Rattle.hw_text.specs.Reading.{Reads, Anything};
-ghost use Rattle.gumbo_parse.specs.declared.contract.ClauseKind.TheVariants.{Assume};
-ghost use Rattle.gumbo_parse.specs.declared.token.Token.TheVariants as token;
-ghost use Rattle.gumbo_parse.specs.declared.word.Word.TheVariants as word;
+ghost use Rattle.hw_reading.specs.Shapes.{shapes_of};
+ghost use Rattle.gumbo_parse.specs.declared.shape.Shape.TheVariants as shape;
 ghost use Rattle.gumbo_parse.specs.Annex.{kinds, SpellsClause};
-ghost use Rattle.gumbo_parse.specs.Values.{Without, text_of, texts, listed, one_listed, start};
+ghost use Rattle.gumbo_parse.specs.Values.{Without, text_of};
 
-use crate::contract::{Clause, ClauseKind};
+use crate::contract::Clause;
 use crate::description::Description;
-use crate::leaf::{read_one, stands};
 use crate::levels::read_started;
 use crate::mark::Mark;
-use crate::symbols::sign;
-use crate::table::{Listed, Table};
+use crate::shape::Shape;
+use crate::tables::KINDS;
 use crate::terminals::{NameAt, TextAt};
 use crate::token::Token;
+use hw_reading::{read_listed, read_one, stands, stands_listed, symbol};
 use hw_text::{Cursor, Placed, ReadFault, Rows};
 use std::alloc::Global;
-
-/// The words with which clauses begin.
-pub struct Kinds;
-
-impl Table for Kinds {
-    type Value = ClauseKind;
-
-    ghost rows = { kinds };
-
-    fn value(text: &str) -> Option<ClauseKind> {
-        if text == "assume" {
-            Some(ClauseKind::Assume)
-        } else if text == "guarantee" {
-            Some(ClauseKind::Guarantee)
-        } else {
-            None
-        }
-    }
-
-    ghost sample = { (record { token = token.Word word.Assume; place = start }, (start, Assume), refl) };
-}
 
 /// Reads what describes a clause, where it is ahead.
 fn description(
     alloc: Global,
     tokens: &mut Cursor<'_, Placed<Token>>,
 ) -> Result<Option<Description>, ReadFault>
-    ensures { Reads (Maybe (One text_of)) (Without (codes "STRING" ∷ [])) tokens.old tokens.new result }
+    ensures { Reads (Maybe (One text_of)) (Without (shape.Text ∷ [])) tokens.old tokens.new result }
 {
-    if !stands::<TextAt>(tokens) {
+    if !stands(tokens, Shape::Text) {
         return Ok(None);
     }
     let text = read_one::<TextAt>(alloc, tokens)?;
@@ -61,12 +38,12 @@ fn description(
 pub fn clause(alloc: Global, tokens: &mut Cursor<'_, Placed<Token>>) -> Result<Clause, ReadFault>
     ensures { Reads SpellsClause Anything tokens.old tokens.new result }
 {
-    let (_, kind) = read_one::<Listed<Kinds>>(alloc, tokens)?;
+    let (_, kind) = read_listed(tokens, &KINDS)?;
     let name = read_one::<NameAt>(alloc, tokens)?;
     let description = description(alloc, tokens)?;
-    sign(tokens, Mark::Colon)?;
+    symbol(tokens, Shape::Mark(Mark::Colon))?;
     let (expression_place, expression) = read_started(alloc, tokens)?;
-    sign(tokens, Mark::Semicolon)?;
+    symbol(tokens, Shape::Mark(Mark::Semicolon))?;
     Ok(Clause {
         kind,
         name,
@@ -82,10 +59,10 @@ pub fn more_clauses(
     tokens: &mut Cursor<'_, Placed<Token>>,
     earlier: Rows<Clause>,
 ) -> Result<Rows<Clause>, ReadFault>
-    ensures { Reads (Made (λ later. earlier ++ later) (Each SpellsClause)) (Without (texts kinds)) tokens.old tokens.new result }
+    ensures { Reads (Made (λ later. earlier ++ later) (Each SpellsClause)) (Without (shapes_of kinds)) tokens.old tokens.new result }
 {
     let mut clauses = earlier;
-    'clauses: while stands::<Listed<Kinds>>(tokens) {
+    'clauses: while stands_listed(tokens, &KINDS) {
         let clause = clause(alloc, tokens)?;
         clauses.push(clause)?;
     }

@@ -10,7 +10,7 @@ use crate::word::Word;
 use hw_text::{Place, Rows};
 
 /// Whether a clause is assumed or guaranteed.
-#[derive(Clone, Copy, Debug, PartialEq, Eq)]
+#[derive(Clone, Copy)]
 pub enum ClauseKind {
     Assume,
     Guarantee,
@@ -29,7 +29,7 @@ impl ClauseKind {
 }
 
 /// A condition on the values of a thread, under a name of its own.
-#[derive(Debug, Drop)]
+#[derive(Drop)]
 pub struct Clause {
     pub kind: ClauseKind,
     pub name: Named,
@@ -40,7 +40,7 @@ pub struct Clause {
 }
 
 /// The clauses of the items of a port, of which there is one at least.
-#[derive(Debug, Drop)]
+#[derive(Drop)]
 pub struct Handler {
     pub port: Named,
     pub first: Clause,
@@ -48,7 +48,7 @@ pub struct Handler {
 }
 
 /// The clauses of an entry point, and of the items that it takes.
-#[derive(Debug, Drop)]
+#[derive(Drop)]
 pub struct Compute {
     pub clauses: Rows<Clause>,
     pub handlers: Rows<Handler>,
@@ -56,7 +56,7 @@ pub struct Compute {
 
 /// The contract of a thread, section by section. A section of no variable or clause is not written; that
 /// of the entry point is written wherever it is there, even without a clause.
-#[derive(Debug, Drop)]
+#[derive(Drop)]
 pub struct Contract {
     pub state: Rows<Variable>,
     pub integration: Rows<Clause>,

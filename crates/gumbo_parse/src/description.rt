@@ -8,7 +8,7 @@ use std::alloc::Global;
 use std::marker::Model;
 
 /// What stands between the quotes of a text: bytes without `"` and line ends.
-#[derive(Debug, Drop)]
+#[derive(Drop)]
 pub struct Description {
     bytes: ByteList,
 }

@@ -3,29 +3,30 @@
 ghost use Rattle.std.specs.Prelude.{◌∷◌};
 ghost use Rattle.hw_text.specs.Language.{Maybe, Each};
 ghost use Rattle.hw_text.specs.Reading.{Reads, TheEnd};
+ghost use Rattle.hw_reading.specs.Shapes.{shapes_of};
+ghost use Rattle.gumbo_parse.specs.declared.shape.Shape.TheVariants as shape;
 ghost use Rattle.gumbo_parse.specs.declared.word.Word.TheVariants as word;
 ghost use Rattle.gumbo_parse.specs.Annex.{kinds, SpellsClause, SpellsHandler, SpellsCompute};
-ghost use Rattle.gumbo_parse.specs.Values.{Without, texts};
-ghost use Rattle.gumbo_parse.specs.Words.{word_spelling};
+ghost use Rattle.gumbo_parse.specs.Values.{Without};
 
 use crate::clauses::{clause, more_clauses};
 use crate::contract::{Clause, Compute, Handler};
-use crate::leaf::read_one;
 use crate::mark::Mark;
-use crate::symbols::{keyword, sign, stands_word};
+use crate::shape::Shape;
 use crate::terminals::NameAt;
 use crate::token::Token;
 use crate::word::Word;
+use hw_reading::{read_one, stands, symbol};
 use hw_text::{Cursor, Placed, ReadFault, Rows};
 use std::alloc::Global;
 
 /// Reads the clauses of the items of a port.
 fn handler(alloc: Global, tokens: &mut Cursor<'_, Placed<Token>>) -> Result<Handler, ReadFault>
-    ensures { Reads SpellsHandler (Without (texts kinds)) tokens.old tokens.new result }
+    ensures { Reads SpellsHandler (Without (shapes_of kinds)) tokens.old tokens.new result }
 {
-    keyword(tokens, Word::Handle)?;
+    symbol(tokens, Shape::Word(Word::Handle))?;
     let port = read_one::<NameAt>(alloc, tokens)?;
-    sign(tokens, Mark::Colon)?;
+    symbol(tokens, Shape::Mark(Mark::Colon))?;
     let first = clause(alloc, tokens)?;
     let others = clauses(alloc, tokens)?;
     Ok(Handler {
@@ -37,7 +38,7 @@ fn handler(alloc: Global, tokens: &mut Cursor<'_, Placed<Token>>) -> Result<Hand
 
 /// Reads clauses, as long as one is ahead.
 fn clauses(alloc: Global, tokens: &mut Cursor<'_, Placed<Token>>) -> Result<Rows<Clause>, ReadFault>
-    ensures { Reads (Each SpellsClause) (Without (texts kinds)) tokens.old tokens.new result }
+    ensures { Reads (Each SpellsClause) (Without (shapes_of kinds)) tokens.old tokens.new result }
 {
     more_clauses(alloc, tokens, Rows::new(alloc))
 }
@@ -47,10 +48,10 @@ fn handlers(
     alloc: Global,
     tokens: &mut Cursor<'_, Placed<Token>>,
 ) -> Result<Rows<Handler>, ReadFault>
-    ensures { Reads (Each SpellsHandler) (Without (word_spelling word.Handle ∷ texts kinds)) tokens.old tokens.new result }
+    ensures { Reads (Each SpellsHandler) (Without (shape.Word word.Handle ∷ shapes_of kinds)) tokens.old tokens.new result }
 {
     let mut handlers = Rows::new(alloc);
-    'handlers: while stands_word(tokens, Word::Handle) {
+    'handlers: while stands(tokens, Shape::Word(Word::Handle)) {
         let handler = handler(alloc, tokens)?;
         handlers.push(handler)?;
     }
@@ -61,7 +62,7 @@ fn handlers(
 fn entry(alloc: Global, tokens: &mut Cursor<'_, Placed<Token>>) -> Result<Compute, ReadFault>
     ensures { Reads SpellsCompute TheEnd tokens.old tokens.new result }
 {
-    keyword(tokens, Word::Compute)?;
+    symbol(tokens, Shape::Word(Word::Compute))?;
     let clauses = clauses(alloc, tokens)?;
     let handlers = handlers(alloc, tokens)?;
     Ok(Compute { clauses, handlers })
@@ -74,7 +75,7 @@ pub fn compute(
 ) -> Result<Option<Compute>, ReadFault>
     ensures { Reads (Maybe SpellsCompute) TheEnd tokens.old tokens.new result }
 {
-    if !stands_word(tokens, Word::Compute) {
+    if !stands(tokens, Shape::Word(Word::Compute)) {
         return Ok(None);
     }
     let compute = entry(alloc, tokens)?;

@@ -1,19 +1,19 @@
 //! Expressions, as trees.
 
 use crate::identifier::Identifier;
-use crate::integer::Integer;
 use crate::operator::{BinaryOperator, PortTest, Quantifier, UnaryOperator};
+use hw_reading::Integer;
 use hw_text::{Boxed, Place, Rows};
 
 /// A name, and where it stands.
-#[derive(Debug, Drop)]
+#[derive(Drop)]
 pub struct Named {
     pub name: Identifier,
     pub place: Place,
 }
 
 /// An end of the range of a quantifier: a whole number, maybe behind a minus.
-#[derive(Debug, Drop)]
+#[derive(Drop)]
 pub struct Bound {
     pub negative: bool,
     pub number: Integer,
@@ -23,7 +23,7 @@ pub struct Bound {
 
 /// What stands behind a name, and leads to a part of its value.
 #[cycle(expression)]
-#[derive(Debug, Drop)]
+#[derive(Drop)]
 pub enum Selector {
     Field(Named),
     /// The index, and where its first token stands.
@@ -33,7 +33,7 @@ pub enum Selector {
 /// An expression. Parentheses are no part of it: binary operators have two operands. The place of a number
 /// or a truth value is its own, and that of a unary or binary expression is its operator's.
 #[cycle(expression)]
-#[derive(Debug, Drop)]
+#[derive(Drop)]
 pub enum Expression {
     Number(Place, Integer),
     Truth(Place, bool),

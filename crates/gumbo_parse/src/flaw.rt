@@ -1,11 +1,12 @@
 //! What may be wrong with a token with which the grammar goes on.
 
 ghost use Rattle.std.specs.Prelude.{◌≡◌, ◌≤◌, ◌<◌, ℕ, Some, None, IfNone, MatchOption};
-ghost use Rattle.gumbo_parse.specs.Flaws.{open_behind_mark, open_behind_token, flaw_of, flaw_at, spot_behind, spot_behind_mark, one_further, length_in};
+ghost use Rattle.gumbo_parse.specs.Flaws.{bracket_of, open_behind_token, flaw_of, flaw_at, spot_behind, spot_behind_mark, one_further, length_in};
 
 use crate::mark::Mark;
 use crate::token::Token;
 use crate::word::Word;
+use hw_reading::Bracket;
 use hw_text::Placed;
 
 /// How many brackets may be open at once.
@@ -15,7 +16,7 @@ pub const DEEPEST: usize = 64;
 pub const LONGEST: usize = 500;
 
 /// What is wrong with a token.
-#[derive(Clone, Copy, Debug, PartialEq, Eq)]
+#[derive(Clone, Copy)]
 pub enum Flaw {
     /// It is a bracket inside as many open ones as there may be.
     TooDeep,
@@ -24,14 +25,14 @@ pub enum Flaw {
 }
 
 /// A token with which something is wrong.
-#[derive(Clone, Copy, Debug, PartialEq, Eq)]
+#[derive(Clone, Copy)]
 pub struct Flawed {
     pub index: usize,
     pub flaw: Flaw,
 }
 
 /// Where in a clause a text goes on.
-#[derive(Clone, Copy, Debug, PartialEq, Eq)]
+#[derive(Clone, Copy)]
 pub enum Spot {
     Outside,
     /// Behind its word, and before its colon.
@@ -80,21 +81,17 @@ fn open_behind_token(depth: usize, token: &Token) -> usize
     requires { depth ≤ 64 }
     ensures { result ≡ open_behind_token depth token.now }
 {
-    match token {
-        Token::Mark(mark) => open_behind_mark(depth, *mark),
-        _ => depth,
-    }
+    bracket_of(token).open_behind(depth)
 }
 
-/// How many brackets are open behind a mark, so many being open before it.
-fn open_behind_mark(depth: usize, mark: Mark) -> usize
-    requires { depth ≤ 64 }
-    ensures { result ≡ open_behind_mark depth mark }
+/// What a token is to the brackets around it.
+fn bracket_of(token: &Token) -> Bracket
+    ensures { result ≡ bracket_of token.now }
 {
-    match mark {
-        Mark::OpenParenthesis | Mark::OpenBracket => depth + 1,
-        Mark::CloseParenthesis | Mark::CloseBracket => depth.saturating_sub(1),
-        _ => depth,
+    match token {
+        Token::Mark(Mark::OpenParenthesis) | Token::Mark(Mark::OpenBracket) => Bracket::Opens,
+        Token::Mark(Mark::CloseParenthesis) | Token::Mark(Mark::CloseBracket) => Bracket::Closes,
+        _ => Bracket::Neither,
     }
 }
 

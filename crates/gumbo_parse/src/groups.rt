@@ -7,13 +7,13 @@ ghost use Rattle.gumbo_parse.specs.Levels.{Ends};
 
 use crate::bounds::quantification;
 use crate::expression::Expression;
-use crate::leaf::stands;
 use crate::level::Level;
 use crate::levels::{read_level, read_started};
 use crate::mark::Mark;
-use crate::symbols::sign;
-use crate::table::{Listed, Quantifiers};
+use crate::shape::Shape;
+use crate::tables::QUANTIFIERS;
 use crate::token::Token;
+use hw_reading::{stands_listed, symbol};
 use hw_text::{Boxed, Cursor, Placed, ReadFault};
 use std::alloc::Global;
 
@@ -25,9 +25,9 @@ pub fn read_parenthesised(
 ) -> Result<Expression, ReadFault>
     ensures { Reads SpellsParenthesised Anything tokens.old tokens.new result }
 {
-    sign(tokens, Mark::OpenParenthesis)?;
+    symbol(tokens, Shape::Mark(Mark::OpenParenthesis))?;
     let inner = read_group(alloc, tokens)?;
-    sign(tokens, Mark::CloseParenthesis)?;
+    symbol(tokens, Shape::Mark(Mark::CloseParenthesis))?;
     Ok(inner)
 }
 
@@ -39,7 +39,7 @@ fn read_group(
 ) -> Result<Expression, ReadFault>
     ensures { Reads SpellsGroup (Ends level.Implication) tokens.old tokens.new result }
 {
-    if stands::<Listed<Quantifiers>>(tokens) {
+    if stands_listed(tokens, &QUANTIFIERS) {
         return read_quantified(alloc, tokens);
     }
     read_level(alloc, tokens, Level::Implication)

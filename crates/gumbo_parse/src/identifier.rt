@@ -10,7 +10,7 @@ use std::alloc::Global;
 use std::marker::Model;
 
 /// A name in a contract, in lower case: a name of model text that is no word of contracts.
-#[derive(Debug, Drop)]
+#[derive(Drop)]
 pub struct Identifier {
     name: Name,
 }
@@ -40,6 +40,13 @@ impl Identifier {
             Err(NameFault::BadName) => Ok(None),
             Err(NameFault::NoMemory) => Err(NoMemory),
         }
+    }
+
+    /// The same name, which is one of models too.
+    pub fn name(&self) -> &Name
+        ensures { result.now ≡ self.now }
+    {
+        &self.name
     }
 
     /// The bytes of the name.

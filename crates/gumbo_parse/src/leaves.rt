@@ -4,13 +4,13 @@ ghost use Rattle.hw_text.specs.Reading.{Reads, Anything};
 ghost use Rattle.gumbo_parse.specs.Grammar.{SpellsNumber, SpellsTruth, SpellsTest, SpellsField};
 
 use crate::expression::{Expression, Selector};
-use crate::leaf::read_one;
 use crate::mark::Mark;
 use crate::ports::port;
-use crate::symbols::sign;
-use crate::table::{Listed, Tests, Truths};
+use crate::shape::Shape;
+use crate::tables::{TESTS, TRUTHS};
 use crate::terminals::{NameAt, NumberAt};
 use crate::token::Token;
+use hw_reading::{read_listed, read_one, symbol};
 use hw_text::{Cursor, Placed, ReadFault};
 use std::alloc::Global;
 
@@ -26,13 +26,10 @@ pub fn read_number(
 }
 
 /// Reads `true` or `false`.
-pub fn read_truth(
-    alloc: Global,
-    tokens: &mut Cursor<'_, Placed<Token>>,
-) -> Result<Expression, ReadFault>
+pub fn read_truth(tokens: &mut Cursor<'_, Placed<Token>>) -> Result<Expression, ReadFault>
     ensures { Reads SpellsTruth Anything tokens.old tokens.new result }
 {
-    let (place, truth) = read_one::<Listed<Truths>>(alloc, tokens)?;
+    let (place, truth) = read_listed(tokens, &TRUTHS)?;
     Ok(Expression::Truth(place, truth))
 }
 
@@ -43,7 +40,7 @@ pub fn read_test(
 ) -> Result<Expression, ReadFault>
     ensures { Reads SpellsTest Anything tokens.old tokens.new result }
 {
-    let (place, test) = read_one::<Listed<Tests>>(alloc, tokens)?;
+    let (place, test) = read_listed(tokens, &TESTS)?;
     let named = port(alloc, tokens)?;
     Ok(Expression::Test(place, test, named))
 }
@@ -55,7 +52,7 @@ pub fn read_field(
 ) -> Result<Selector, ReadFault>
     ensures { Reads SpellsField Anything tokens.old tokens.new result }
 {
-    sign(tokens, Mark::Dot)?;
+    symbol(tokens, Shape::Mark(Mark::Dot))?;
     let named = read_one::<NameAt>(alloc, tokens)?;
     Ok(Selector::Field(named))
 }

@@ -1,10 +1,10 @@
 //! How tightly expressions bind.
 
 ghost use Rattle.std.specs.Prelude.{◌≡◌};
-ghost use Rattle.gumbo_parse.specs.Levels.{next, right, form_of};
+ghost use Rattle.gumbo_parse.specs.Levels.{next, left, right, form_of, height, is_looser};
 
 /// How tightly an expression binds, from the loosest.
-#[derive(Clone, Copy, Debug, PartialEq, Eq)]
+#[derive(Clone, Copy, PartialEq, Eq)]
 pub enum Level {
     Implication,
     Disjunction,
@@ -18,7 +18,7 @@ pub enum Level {
 }
 
 /// How the expressions of a level are made of tighter ones.
-#[derive(Clone, Copy, Debug, PartialEq, Eq)]
+#[derive(Clone, Copy)]
 pub enum Form {
     /// Any number of operators, which group to the left.
     Chain,
@@ -48,7 +48,17 @@ impl Level {
         }
     }
 
-    /// The level of the right operand of its one operator.
+    /// The level of what stands before one of its operators.
+    pub fn left(self) -> Level
+        ensures { result ≡ left self }
+    {
+        match self.form() {
+            Form::Chain => self,
+            _ => self.next(),
+        }
+    }
+
+    /// The level of what stands behind one of its operators.
     pub fn right(self) -> Level
         ensures { result ≡ right self }
     {
@@ -67,5 +77,29 @@ impl Level {
             Level::Negation | Level::Sign => Form::Prefix,
             Level::Operand => Form::Operand,
         }
+    }
+
+    /// How many levels are tighter.
+    fn height(self) -> u8
+        ensures { result ≡ height self }
+    {
+        match self {
+            Level::Implication => 8,
+            Level::Disjunction => 7,
+            Level::Conjunction => 6,
+            Level::Negation => 5,
+            Level::Comparison => 4,
+            Level::Sum => 3,
+            Level::Product => 2,
+            Level::Sign => 1,
+            Level::Operand => 0,
+        }
+    }
+
+    /// Whether it is looser than another level.
+    pub fn is_looser(self, wanted: Level) -> bool
+        ensures { result ≡ is_looser self wanted }
+    {
+        self.height() > wanted.height()
     }
 }

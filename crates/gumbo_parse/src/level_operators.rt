@@ -1,94 +1,83 @@
-//! The operators of each level, by their spellings.
+//! The operators of each level, as they are written.
 
-ghost use Rattle.std.specs.Prelude.{◌≡◌, [], ◌∷◌};
-ghost use Rattle.gumbo_parse.specs.declared.level.Level.TheVariants as level;
+ghost use Rattle.std.specs.Prelude.{◌≡◌};
 ghost use Rattle.gumbo_parse.specs.Levels.{infixes, prefixes};
-ghost use Rattle.gumbo_parse.specs.Values.{listed};
 
 use crate::level::Level;
+use crate::mark::Mark;
 use crate::operator::{BinaryOperator, UnaryOperator};
+use crate::shape::Shape;
+use crate::word::Word;
+
+static IMPLICATIONS: [(Shape, BinaryOperator); 2] = [
+    (Shape::Word(Word::Implies), BinaryOperator::Implies),
+    (Shape::Mark(Mark::Implication), BinaryOperator::Implies),
+];
+
+static DISJUNCTIONS: [(Shape, BinaryOperator); 2] = [
+    (Shape::Word(Word::Or), BinaryOperator::Or),
+    (Shape::Mark(Mark::Bar), BinaryOperator::Or),
+];
+
+static CONJUNCTIONS: [(Shape, BinaryOperator); 2] = [
+    (Shape::Word(Word::And), BinaryOperator::And),
+    (Shape::Mark(Mark::Ampersand), BinaryOperator::And),
+];
+
+static COMPARISONS: [(Shape, BinaryOperator); 6] = [
+    (Shape::Mark(Mark::Equal), BinaryOperator::Equal),
+    (Shape::Mark(Mark::NotEqual), BinaryOperator::NotEqual),
+    (Shape::Mark(Mark::Less), BinaryOperator::Less),
+    (Shape::Mark(Mark::LessOrEqual), BinaryOperator::LessOrEqual),
+    (Shape::Mark(Mark::Greater), BinaryOperator::Greater),
+    (
+        Shape::Mark(Mark::GreaterOrEqual),
+        BinaryOperator::GreaterOrEqual,
+    ),
+];
+
+static SUMS: [(Shape, BinaryOperator); 2] = [
+    (Shape::Mark(Mark::Plus), BinaryOperator::Add),
+    (Shape::Mark(Mark::Minus), BinaryOperator::Subtract),
+];
+
+static PRODUCTS: [(Shape, BinaryOperator); 3] = [
+    (Shape::Mark(Mark::Star), BinaryOperator::Multiply),
+    (Shape::Mark(Mark::Slash), BinaryOperator::Divide),
+    (Shape::Mark(Mark::Percent), BinaryOperator::Remainder),
+];
+
+static NEGATIONS: [(Shape, UnaryOperator); 2] = [
+    (Shape::Word(Word::Not), UnaryOperator::Not),
+    (Shape::Mark(Mark::Bang), UnaryOperator::Not),
+];
+
+static SIGNS: [(Shape, UnaryOperator); 1] = [(Shape::Mark(Mark::Minus), UnaryOperator::Minus)];
 
 impl Level {
-    /// The operator between operands of the level that is spelled so.
-    pub fn infix(self, text: &str) -> Option<BinaryOperator>
-        ensures { result ≡ listed (infixes self) text.now }
+    /// The operators between operands of the level.
+    pub fn infixes(self) -> &'static [(Shape, BinaryOperator)]
+        ensures { result.now ≡ infixes self }
     {
         match self {
-            Level::Implication => either(text, "implies", "->:", BinaryOperator::Implies),
-            Level::Disjunction => either(text, "or", "|", BinaryOperator::Or),
-            Level::Conjunction => either(text, "and", "&", BinaryOperator::And),
-            Level::Comparison => comparison(text),
-            Level::Sum => sum(text),
-            Level::Product => product(text),
-            Level::Negation | Level::Sign | Level::Operand => None,
+            Level::Implication => &IMPLICATIONS,
+            Level::Disjunction => &DISJUNCTIONS,
+            Level::Conjunction => &CONJUNCTIONS,
+            Level::Comparison => &COMPARISONS,
+            Level::Sum => &SUMS,
+            Level::Product => &PRODUCTS,
+            Level::Negation | Level::Sign | Level::Operand => &[],
         }
     }
 
-    /// The operator before an operand of the level that is spelled so.
-    pub fn prefix(self, text: &str) -> Option<UnaryOperator>
-        ensures { result ≡ listed (prefixes self) text.now }
+    /// The operators before an operand of the level.
+    pub fn prefixes(self) -> &'static [(Shape, UnaryOperator)]
+        ensures { result.now ≡ prefixes self }
     {
         match self {
-            Level::Negation if text == "not" || text == "!" => Some(UnaryOperator::Not),
-            Level::Sign if text == "-" => Some(UnaryOperator::Minus),
-            _ => None,
+            Level::Negation => &NEGATIONS,
+            Level::Sign => &SIGNS,
+            _ => &[],
         }
-    }
-}
-
-/// The operator, where the text is one of its two spellings.
-fn either(text: &str, one: &str, other: &str, operator: BinaryOperator) -> Option<BinaryOperator>
-    ensures { result ≡ listed ((one.now, operator) ∷ (other.now, operator) ∷ []) text.now }
-{
-    if text == one || text == other {
-        Some(operator)
-    } else {
-        None
-    }
-}
-
-fn comparison(text: &str) -> Option<BinaryOperator>
-    ensures { result ≡ listed (infixes level.Comparison) text.now }
-{
-    if text == "==" {
-        Some(BinaryOperator::Equal)
-    } else if text == "!=" {
-        Some(BinaryOperator::NotEqual)
-    } else if text == "<" {
-        Some(BinaryOperator::Less)
-    } else if text == "<=" {
-        Some(BinaryOperator::LessOrEqual)
-    } else if text == ">" {
-        Some(BinaryOperator::Greater)
-    } else if text == ">=" {
-        Some(BinaryOperator::GreaterOrEqual)
-    } else {
-        None
-    }
-}
-
-fn sum(text: &str) -> Option<BinaryOperator>
-    ensures { result ≡ listed (infixes level.Sum) text.now }
-{
-    if text == "+" {
-        Some(BinaryOperator::Add)
-    } else if text == "-" {
-        Some(BinaryOperator::Subtract)
-    } else {
-        None
-    }
-}
-
-fn product(text: &str) -> Option<BinaryOperator>
-    ensures { result ≡ listed (infixes level.Product) text.now }
-{
-    if text == "*" {
-        Some(BinaryOperator::Multiply)
-    } else if text == "/" {
-        Some(BinaryOperator::Divide)
-    } else if text == "%" {
-        Some(BinaryOperator::Remainder)
-    } else {
-        None
     }
 }

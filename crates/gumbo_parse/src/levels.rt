@@ -2,11 +2,12 @@
 
 ghost use Rattle.std.specs.Prelude.{◌≡◌, true, IfOk};
 ghost use Rattle.hw_text.specs.Reading.{Reads, begins};
+ghost use Rattle.hw_reading.specs.Shapes.{shapes_of};
 ghost use Rattle.gumbo_parse.specs.declared.level.Form.TheVariants as form;
 ghost use Rattle.gumbo_parse.specs.declared.level.Level.TheVariants as level;
-ghost use Rattle.gumbo_parse.specs.Grammar.{Spells, SpellsOperation, SpellsStarted, joined, start_of};
+ghost use Rattle.gumbo_parse.specs.Grammar.{Spells, SpellsOperation, SpellsStarted, applied, start_of};
 ghost use Rattle.gumbo_parse.specs.Levels.{Ends, form_of, right, infixes};
-ghost use Rattle.gumbo_parse.specs.Values.{one_of, texts};
+ghost use Rattle.gumbo_parse.specs.Values.{one_of};
 
 use crate::expression::Expression;
 use crate::level::{Form, Level};
@@ -47,7 +48,7 @@ fn read_chain(
     let mut left = read_level(alloc, tokens, level.next())?;
     'operations: while stands_infix(tokens, level) {
         let operation = read_operation(alloc, tokens, level)?;
-        left = joined(alloc, left, operation)?;
+        left = applied(alloc, left, operation)?;
     }
     Ok(left)
 }
@@ -67,7 +68,7 @@ fn read_pair(
         return Ok(left);
     }
     let operation = read_operation(alloc, tokens, level)?;
-    let both = joined(alloc, left, operation)?;
+    let both = applied(alloc, left, operation)?;
     Ok(both)
 }
 
@@ -97,7 +98,7 @@ fn read_operation(
     tokens: &mut Cursor<'_, Placed<Token>>,
     level: Level,
 ) -> Result<Operation, ReadFault>
-    requires { begins (one_of (texts (infixes level))) tokens.old ≡ true }
+    requires { begins (one_of (shapes_of (infixes level))) tokens.old ≡ true }
     ensures { Reads (SpellsOperation level) (Ends (right level)) tokens.old tokens.new result }
 {
     let (place, operator) = read_infix(tokens, level)?;
@@ -133,8 +134,8 @@ fn start_of(tokens: &Cursor<'_, Placed<Token>>) -> Place
 }
 
 /// The operation on what stands before it.
-fn joined(alloc: Global, left: Expression, operation: Operation) -> Result<Expression, NoMemory>
-    ensures { IfOk result (λ e. e ≡ joined left operation) }
+fn applied(alloc: Global, left: Expression, operation: Operation) -> Result<Expression, NoMemory>
+    ensures { IfOk result (λ e. e ≡ applied left operation) }
 {
     let left = Boxed::new(alloc, left)?;
     let right = Boxed::new(alloc, operation.operand)?;

@@ -10,56 +10,55 @@ ghost use Rattle.gumbo_parse.specs.Words.{word_named};
 
 use crate::description::Description;
 use crate::identifier::Identifier;
-use crate::integer::Integer;
 use crate::mark::Mark;
 use crate::token::Token;
 use crate::word::Word;
+use hw_reading::{Integer, Lexical, tokens_from};
 use hw_text::{
-    ByteClass, Lexed, NoMemory, Place, Placed, Rows, behind_byte, decimal, front, is_digit,
-    is_letter, place_of_rest, skipped, text_length,
+    ByteClass, Lexed, NoMemory, Place, behind_byte, decimal, front, is_digit, is_letter,
+    place_of_rest, skipped, text_length,
 };
 use std::alloc::Global;
+
+/// The tokens of contracts.
+struct Tokens;
+
+#[tactic(auto, unfolding(crate::specs::Tokens::token_at))]
+impl Lexical for Tokens {
+    type Token = Token;
+
+    ghost token_at = { token_at };
+
+    ghost skipped = { skipped };
+
+    fn token_at(alloc: Global, bytes: &[u8]) -> Result<Option<(Self::Token, &[u8])>, NoMemory> {
+        let Some((first, after)) = front(bytes) else {
+            return Ok(None);
+        };
+        if is_letter(first) {
+            let (token, rest) = word_token(alloc, bytes)?;
+            return Ok(Some((token, rest)));
+        }
+        if is_digit(first) {
+            return Ok(number_token(bytes));
+        }
+        if first == b'"' {
+            return text_token(alloc, after);
+        }
+        Ok(mark_token(bytes))
+    }
+
+    fn skip(bytes: &[u8]) -> &[u8] {
+        skipped(bytes)
+    }
+}
 
 /// The tokens of a text that begins at a place, as far as it consists of tokens.
 pub fn read_tokens(alloc: Global, bytes: &[u8], at: Place) -> Result<Lexed<'_, Token>, NoMemory>
     ensures { IfOk result (λ lexed. Lexes token_at skipped at bytes.now lexed.tokens lexed.end lexed.rest.now) }
 {
-    let mut tokens = Rows::new(alloc);
-    let mut rest = skipped(bytes);
-    let mut place = place_of_rest(at, bytes, rest);
-    'tokens: while let Some((token, after)) = token_at(alloc, rest)? {
-        tokens.push(Placed { token, place })?;
-        let next = skipped(after);
-        place = place_of_rest(place, rest, next);
-        rest = next;
-    }
-    Ok(Lexed {
-        tokens,
-        end: place,
-        rest,
-    })
-}
-
-/// The longest token at the front of a text, and the text behind it.
-#[tactic(auto, unfolding(crate::specs::Tokens::token_at))]
-fn token_at(alloc: Global, bytes: &[u8]) -> Result<Option<(Token, &[u8])>, NoMemory>
-    ensures exact { IfOk result (λ found. option_map (λ r. (r.0, r.1.now)) found ≡ token_at bytes.now) }
-    ensures shorter { IfOk result (λ found. IfSome found (λ r. length r.1.now < length bytes.now)) }
-{
-    let Some((first, after)) = front(bytes) else {
-        return Ok(None);
-    };
-    if is_letter(first) {
-        let (token, rest) = word_token(alloc, bytes)?;
-        return Ok(Some((token, rest)));
-    }
-    if is_digit(first) {
-        return Ok(number_token(bytes));
-    }
-    if first == b'"' {
-        return text_token(alloc, after);
-    }
-    Ok(mark_token(bytes))
+    let first = skipped(bytes);
+    tokens_from::<Tokens>(alloc, first, place_of_rest(at, bytes, first))
 }
 
 /// The word at the front of a text that begins with a letter.

@@ -8,7 +8,7 @@ ghost use Rattle.gumbo_parse.specs.Marks.{mark_spelling, mark_at};
 use hw_text::behind_bytes;
 
 /// A token that is neither word, number nor text.
-#[derive(Clone, Copy, Debug, PartialEq, Eq)]
+#[derive(Clone, Copy, PartialEq, Eq)]
 pub enum Mark {
     Semicolon,
     Colon,

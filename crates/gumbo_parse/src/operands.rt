@@ -2,27 +2,27 @@
 
 ghost use Rattle.std.specs.Prelude.{◌∷◌};
 ghost use Rattle.hw_text.specs.Reading.{Reads, Anything};
+ghost use Rattle.gumbo_parse.specs.declared.shape.Shape.TheVariants as shape;
 ghost use Rattle.gumbo_parse.specs.declared.level.Level.TheVariants as level;
 ghost use Rattle.gumbo_parse.specs.declared.mark.Mark.TheVariants as mark;
 ghost use Rattle.gumbo_parse.specs.Grammar.{SpellsOperand, SpellsValue, SpellsBefore, SpellsMustSend, SpellsSent};
 ghost use Rattle.gumbo_parse.specs.Levels.{goes_on, part_shapes};
-ghost use Rattle.gumbo_parse.specs.Marks.{mark_spelling};
 ghost use Rattle.gumbo_parse.specs.Values.{Without};
 
 use crate::expression::Expression;
 use crate::groups::read_parenthesised;
-use crate::leaf::{read_one, stands};
 use crate::leaves::{read_number, read_test, read_truth};
 use crate::levels::read_started;
 use crate::mark::Mark;
 use crate::operator::PortTest;
 use crate::ports::{asked, before_entry};
 use crate::selectors::read_parts;
-use crate::symbols::{sign, stands_sign, stands_word};
-use crate::table::{Listed, Tests, Truths};
-use crate::terminals::{NameAt, NumberAt};
+use crate::shape::Shape;
+use crate::tables::{TESTS, TRUTHS};
+use crate::terminals::NameAt;
 use crate::token::Token;
 use crate::word::Word;
+use hw_reading::{read_one, stands, stands_either, stands_listed, symbol};
 use hw_text::{Boxed, Cursor, Place, Placed, ReadFault};
 use std::alloc::Global;
 
@@ -34,22 +34,22 @@ pub fn read_operand(
 ) -> Result<Expression, ReadFault>
     ensures { Reads SpellsOperand (Without part_shapes) tokens.old tokens.new result }
 {
-    if stands::<NumberAt>(tokens) {
+    if stands(tokens, Shape::Number) {
         return read_number(alloc, tokens);
     }
-    if stands::<Listed<Truths>>(tokens) {
-        return read_truth(alloc, tokens);
+    if stands_listed(tokens, &TRUTHS) {
+        return read_truth(tokens);
     }
-    if stands::<Listed<Tests>>(tokens) {
+    if stands_listed(tokens, &TESTS) {
         return read_test(alloc, tokens);
     }
-    if stands::<NameAt>(tokens) {
+    if stands_either(tokens, Shape::Name, Shape::BasePackage) {
         return read_value(alloc, tokens);
     }
-    if stands_word(tokens, Word::In) {
+    if stands(tokens, Shape::Word(Word::In)) {
         return read_before(alloc, tokens);
     }
-    if stands_word(tokens, Word::MustSend) {
+    if stands(tokens, Shape::Word(Word::MustSend)) {
         return read_must_send(alloc, tokens);
     }
     read_parenthesised(alloc, tokens)
@@ -91,7 +91,7 @@ fn read_must_send(
 {
     let (place, port) = asked(alloc, tokens)?;
     let sent = read_sent(alloc, tokens)?;
-    sign(tokens, Mark::CloseParenthesis)?;
+    symbol(tokens, Shape::Mark(Mark::CloseParenthesis))?;
     match sent {
         Some((start, value)) => {
             let value = Boxed::new(alloc, value)?;
@@ -107,12 +107,12 @@ fn read_sent(
     alloc: Global,
     tokens: &mut Cursor<'_, Placed<Token>>,
 ) -> Result<Option<(Place, Expression)>, ReadFault>
-    ensures { Reads SpellsSent (Without (mark_spelling mark.Comma ∷ goes_on level.Implication)) tokens.old tokens.new result }
+    ensures { Reads SpellsSent (Without (shape.Mark mark.Comma ∷ goes_on level.Implication)) tokens.old tokens.new result }
 {
-    if !stands_sign(tokens, Mark::Comma) {
+    if !stands(tokens, Shape::Mark(Mark::Comma)) {
         return Ok(None);
     }
-    sign(tokens, Mark::Comma)?;
+    symbol(tokens, Shape::Mark(Mark::Comma))?;
     let sent = read_started(alloc, tokens)?;
     Ok(Some(sent))
 }

@@ -5,7 +5,7 @@ use crate::operator::BinaryOperator;
 use hw_text::Place;
 
 /// What stands behind an operand: an operator, and another operand.
-#[derive(Debug, Drop)]
+#[derive(Drop)]
 pub struct Operation {
     pub place: Place,
     pub operator: BinaryOperator,

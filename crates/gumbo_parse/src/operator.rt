@@ -1,17 +1,19 @@
 //! The operators of expressions, and how tightly they bind.
 
-ghost use Rattle.std.specs.Prelude.{◌≡◌, ◌≤◌};
-ghost use Rattle.gumbo_parse.specs.Operators.{unary_level, binary_level, left_level, right_level};
+ghost use Rattle.std.specs.Prelude.{◌≡◌};
+ghost use Rattle.gumbo_parse.specs.Levels.{unary_level, binary_level};
+
+use crate::level::Level;
 
 /// An operator with one operand.
-#[derive(Clone, Copy, Debug, PartialEq, Eq)]
+#[derive(Clone, Copy)]
 pub enum UnaryOperator {
     Not,
     Minus,
 }
 
 /// An operator with two operands.
-#[derive(Clone, Copy, Debug, PartialEq, Eq)]
+#[derive(Clone, Copy)]
 pub enum BinaryOperator {
     Implies,
     Or,
@@ -30,14 +32,14 @@ pub enum BinaryOperator {
 }
 
 /// Whether something is to hold for all numbers of a range, or for some.
-#[derive(Clone, Copy, Debug, PartialEq, Eq)]
+#[derive(Clone, Copy)]
 pub enum Quantifier {
     ForAll,
     Exists,
 }
 
 /// What is asked of a port alone.
-#[derive(Clone, Copy, Debug, PartialEq, Eq)]
+#[derive(Clone, Copy)]
 pub enum PortTest {
     /// Whether an item has come in at the port.
     HasEvent,
@@ -49,75 +51,35 @@ pub enum PortTest {
 
 impl UnaryOperator {
     /// How tightly it binds, and its operand has to.
-    pub fn level(self) -> u8
-        ensures exact { result ≡ unary_level self }
-        ensures bound { result ≤ 8 }
+    pub fn level(self) -> Level
+        ensures { result ≡ unary_level self }
     {
         match self {
-            UnaryOperator::Not => 3,
-            UnaryOperator::Minus => 7,
+            UnaryOperator::Not => Level::Negation,
+            UnaryOperator::Minus => Level::Sign,
         }
     }
 }
 
 impl BinaryOperator {
     /// How tightly it binds.
-    pub fn level(self) -> u8
-        ensures exact { result ≡ binary_level self }
-        ensures bound { result ≤ 8 }
+    pub fn level(self) -> Level
+        ensures { result ≡ binary_level self }
     {
         match self {
-            BinaryOperator::Implies => 0,
-            BinaryOperator::Or => 1,
-            BinaryOperator::And => 2,
+            BinaryOperator::Implies => Level::Implication,
+            BinaryOperator::Or => Level::Disjunction,
+            BinaryOperator::And => Level::Conjunction,
             BinaryOperator::Equal
             | BinaryOperator::NotEqual
             | BinaryOperator::Less
             | BinaryOperator::LessOrEqual
             | BinaryOperator::Greater
-            | BinaryOperator::GreaterOrEqual => 4,
-            BinaryOperator::Add | BinaryOperator::Subtract => 5,
-            BinaryOperator::Multiply | BinaryOperator::Divide | BinaryOperator::Remainder => 6,
-        }
-    }
-
-    /// How tightly its left operand has to bind.
-    pub fn left(self) -> u8
-        ensures exact { result ≡ left_level self }
-        ensures bound { result ≤ 8 }
-    {
-        match self {
-            BinaryOperator::Implies => 1,
-            BinaryOperator::Or => 1,
-            BinaryOperator::And => 2,
-            BinaryOperator::Equal
-            | BinaryOperator::NotEqual
-            | BinaryOperator::Less
-            | BinaryOperator::LessOrEqual
-            | BinaryOperator::Greater
-            | BinaryOperator::GreaterOrEqual => 5,
-            BinaryOperator::Add | BinaryOperator::Subtract => 5,
-            BinaryOperator::Multiply | BinaryOperator::Divide | BinaryOperator::Remainder => 6,
-        }
-    }
-
-    /// How tightly its right operand has to bind.
-    pub fn right(self) -> u8
-        ensures exact { result ≡ right_level self }
-        ensures bound { result ≤ 8 }
-    {
-        match self {
-            BinaryOperator::Implies => 0,
-            BinaryOperator::Or => 2,
-            BinaryOperator::And => 3,
-            BinaryOperator::Equal
-            | BinaryOperator::NotEqual
-            | BinaryOperator::Less
-            | BinaryOperator::LessOrEqual
-            | BinaryOperator::Greater
-            | BinaryOperator::GreaterOrEqual => 5,
-            BinaryOperator::Add | BinaryOperator::Subtract => 6,
-            BinaryOperator::Multiply | BinaryOperator::Divide | BinaryOperator::Remainder => 7,
+            | BinaryOperator::GreaterOrEqual => Level::Comparison,
+            BinaryOperator::Add | BinaryOperator::Subtract => Level::Sum,
+            BinaryOperator::Multiply | BinaryOperator::Divide | BinaryOperator::Remainder => {
+                Level::Product
+            }
         }
     }
 }

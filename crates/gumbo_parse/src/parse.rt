@@ -17,8 +17,9 @@ use crate::contract::Contract;
 use crate::flaw::{Flawed, first_flawed};
 use crate::lexer::read_tokens;
 use crate::refusals::{flawed, syntax};
+use crate::sections::Annex;
 use crate::token::Token;
-use crate::whole::read_whole;
+use hw_reading::read_whole;
 use hw_text::{Fault, Lexed, NoMemory, Place, Refusal, Whole};
 use std::alloc::Global;
 
@@ -50,7 +51,7 @@ fn read_flawless(alloc: Global, lexed: &Lexed<'_, Token>) -> Result<Contract, Fa
     ensures read { (at : Place) → IfOk result (λ value. IsSound (contract_rules at) lexed.now.tokens lexed.now.end lexed.now.rest.now value) }
     ensures refused { (at : Place) → IfRefused result (λ refusal. (i : ℕ) × FailsAt (contract_rules at) lexed.now.tokens lexed.now.end lexed.now.rest.now i refusal) }
 {
-    match read_whole(alloc, lexed.tokens.rows())? {
+    match read_whole(&Annex, alloc, lexed.tokens.rows())? {
         Whole::Text(value) => {
             if lexed.rest.len() == 0 {
                 Ok(value)
@@ -74,7 +75,7 @@ fn failure_before(
     ensures { (at : Place) → IfOk result (λ refusal. (i : ℕ) × FailsAt (contract_rules at) lexed.now.tokens lexed.now.end lexed.now.rest.now i refusal) }
 {
     let (front, _) = lexed.tokens.rows().split_at(flaw.index + 1);
-    let whole = read_whole(alloc, front)?;
+    let whole = read_whole(&Annex, alloc, front)?;
     let passed = whole.passed(front.len());
     if passed <= flaw.index {
         return Ok(unexpected_behind(alloc, lexed, passed));

@@ -4,12 +4,12 @@ ghost use Rattle.hw_text.specs.Reading.{Reads, Anything};
 ghost use Rattle.gumbo_parse.specs.Grammar.{SpellsPort, SpellsIn, SpellsAsked};
 
 use crate::expression::Named;
-use crate::leaf::read_one;
 use crate::mark::Mark;
-use crate::symbols::{keyword, sign};
+use crate::shape::Shape;
 use crate::terminals::NameAt;
 use crate::token::Token;
 use crate::word::Word;
+use hw_reading::{read_one, symbol};
 use hw_text::{Cursor, Place, Placed, ReadFault};
 use std::alloc::Global;
 
@@ -17,9 +17,9 @@ use std::alloc::Global;
 pub fn port(alloc: Global, tokens: &mut Cursor<'_, Placed<Token>>) -> Result<Named, ReadFault>
     ensures { Reads SpellsPort Anything tokens.old tokens.new result }
 {
-    sign(tokens, Mark::OpenParenthesis)?;
+    symbol(tokens, Shape::Mark(Mark::OpenParenthesis))?;
     let name = read_one::<NameAt>(alloc, tokens)?;
-    sign(tokens, Mark::CloseParenthesis)?;
+    symbol(tokens, Shape::Mark(Mark::CloseParenthesis))?;
     Ok(name)
 }
 
@@ -30,7 +30,7 @@ pub fn before_entry(
 ) -> Result<(Place, Named), ReadFault>
     ensures { Reads SpellsIn Anything tokens.old tokens.new result }
 {
-    let place = keyword(tokens, Word::In)?;
+    let place = symbol(tokens, Shape::Word(Word::In))?;
     let named = port(alloc, tokens)?;
     Ok((place, named))
 }
@@ -42,8 +42,8 @@ pub fn asked(
 ) -> Result<(Place, Named), ReadFault>
     ensures { Reads SpellsAsked Anything tokens.old tokens.new result }
 {
-    let place = keyword(tokens, Word::MustSend)?;
-    sign(tokens, Mark::OpenParenthesis)?;
+    let place = symbol(tokens, Shape::Word(Word::MustSend))?;
+    symbol(tokens, Shape::Mark(Mark::OpenParenthesis))?;
     let named = read_one::<NameAt>(alloc, tokens)?;
     Ok((place, named))
 }

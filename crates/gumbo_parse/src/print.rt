@@ -4,9 +4,10 @@ ghost use Rattle.std.specs.Prelude.{◌≡◌, ◌++◌, map, OnOk};
 ghost use Rattle.std.specs.List.{flat_map};
 ghost use Rattle.gumbo_parse.specs.Allowed.{AreAllowed};
 ghost use Rattle.gumbo_parse.specs.ExpressionTokens.{expression_tokens, selector_tokens};
-ghost use Rattle.gumbo_parse.specs.Printing.{joined, expression_text, selector_text};
+ghost use Rattle.gumbo_parse.specs.Printing.{expression_text, selector_text};
 
 use crate::expression::{Expression, Selector};
+use crate::level::Level;
 use crate::print_compound::{
     print_before, print_must_send, print_quantified, print_unary, print_value,
 };
@@ -17,7 +18,7 @@ impl Expression {
     /// Appends the canonical text of the expression, in parentheses where its place wants a tighter
     /// one, and with a space before a minus that stands right behind another.
     #[cycle(printer)]
-    pub fn print(&self, out: &mut TextBuf, wanted: u8, after_minus: bool) -> Result<(), NoMemory>
+    pub fn print(&self, out: &mut TextBuf, wanted: Level, after_minus: bool) -> Result<(), NoMemory>
         ensures text { OnOk result (out.new ≡ out.old ++ expression_text self.now wanted after_minus) }
         ensures allowed { OnOk result (AreAllowed (expression_tokens self.now wanted)) }
     {
@@ -34,11 +35,12 @@ impl Expression {
                 print_unary(out, *operator, operand.get(), wanted, after_minus)
             }
             Expression::Binary(_, operator, left, right) => {
-                let grouped = operator.level() < wanted;
+                let level = operator.level();
+                let grouped = level.is_looser(wanted);
                 open(out, grouped)?;
-                left.get().print(out, operator.left(), false)?;
+                left.get().print(out, level.left(), false)?;
                 print_infix(out, *operator)?;
-                right.get().print(out, operator.right(), false)?;
+                right.get().print(out, level.right(), false)?;
                 close(out, grouped)
             }
             Expression::Quantified {
@@ -66,7 +68,7 @@ impl Selector {
             }
             Selector::Index(_, index) => {
                 out.word(b"[")?;
-                index.print(out, 0, false)?;
+                index.print(out, Level::Implication, false)?;
                 out.word(b"]")
             }
         }
@@ -76,7 +78,7 @@ impl Selector {
 /// Appends each of the fields and indexes behind a name.
 #[cycle(printer)]
 pub fn print_parts(parts: &[Selector], out: &mut TextBuf) -> Result<(), NoMemory>
-    ensures text { OnOk result (out.new ≡ out.old ++ joined (map selector_text parts.now)) }
+    ensures text { OnOk result (out.new ≡ out.old ++ flat_map (λ t. t) (map selector_text parts.now)) }
     ensures allowed { OnOk result (AreAllowed (flat_map (λ ts. ts) (map selector_tokens parts.now))) }
 {
     for part in parts {

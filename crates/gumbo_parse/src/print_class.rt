@@ -1,15 +1,16 @@
 //! Printing state variables and their types.
 
-ghost use Rattle.std.specs.Prelude.{◌≡◌, ◌++◌, OnOk};
+ghost use Rattle.std.specs.Prelude.{◌≡◌, ◌++◌, IfOk, OnOk};
 ghost use Rattle.std.specs.List.{flat_map};
 ghost use Rattle.gumbo_parse.specs.Allowed.{AreAllowed};
-ghost use Rattle.gumbo_parse.specs.Classes.{behind_colons, implementation_text, class_text, variable_text};
+ghost use Rattle.gumbo_parse.specs.Classes.{base_text, behind_colons, implementation_text, class_text, variable_text};
 ghost use Rattle.gumbo_parse.specs.ContractTokens.{step_tokens, implementation_tokens, class_tokens, variable_tokens};
 
 use crate::annex::print_line;
 use crate::class::{Class, Variable};
 use crate::identifier::Identifier;
-use hw_text::{NoMemory, TextBuf};
+use hw_text::{BaseType, NoMemory, TextBuf};
+use std::alloc::Global;
 
 pub fn print_variables(out: &mut TextBuf, variables: &[Variable]) -> Result<(), NoMemory>
     ensures text { OnOk result (out.new ≡ out.old ++ flat_map variable_text variables.now) }
@@ -34,12 +35,21 @@ impl Variable {
 }
 
 impl Class {
+    /// The reference to the type as it is written, in lower case.
+    pub fn reference(&self, alloc: Global) -> Result<TextBuf, NoMemory>
+        ensures { IfOk result (λ text. text ≡ class_text self.now) }
+    {
+        let mut out = TextBuf::new(alloc);
+        self.print(&mut out)?;
+        Ok(out)
+    }
+
     fn print(&self, out: &mut TextBuf) -> Result<(), NoMemory>
         ensures text { OnOk result (out.new ≡ out.old ++ class_text self.now) }
         ensures allowed { OnOk result (AreAllowed (class_tokens self.now)) }
     {
         match self {
-            Class::Base(_, base) => out.word(base.text().as_bytes()),
+            Class::Base(_, base) => print_base(out, *base),
             Class::Model(own) => {
                 out.word(own.first.name.rows())?;
                 print_path(out, own.others.rows())?;
@@ -47,6 +57,13 @@ impl Class {
             }
         }
     }
+}
+
+fn print_base(out: &mut TextBuf, base: BaseType) -> Result<(), NoMemory>
+    ensures { OnOk result (out.new ≡ out.old ++ base_text base) }
+{
+    out.word(b"base_types::")?;
+    out.word(base.name().as_bytes())
 }
 
 fn print_path(out: &mut TextBuf, names: &[Identifier]) -> Result<(), NoMemory>

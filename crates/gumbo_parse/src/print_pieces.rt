@@ -9,8 +9,8 @@ ghost use Rattle.gumbo_parse.specs.Operators.{binary_text};
 ghost use Rattle.gumbo_parse.specs.Printing.{truth_text, bound_text, in_parentheses_text, opening, closing, sign_text, is_minus, quantifier_text, range_text};
 
 use crate::expression::{Bound, Named};
-use crate::integer::Integer;
 use crate::operator::{BinaryOperator, Quantifier, UnaryOperator};
+use hw_reading::Integer;
 use hw_text::{NoMemory, TextBuf};
 
 impl Named {
@@ -35,15 +35,6 @@ impl Bound {
             out.word(b"-")?;
         }
         self.number.print(out)
-    }
-}
-
-impl Integer {
-    pub fn print(&self, out: &mut TextBuf) -> Result<(), NoMemory>
-        ensures text { OnOk result (out.new ≡ out.old ++ signed_decimal (pos self.now)) }
-        ensures allowed { IsAllowed (token.Number self.now) }
-    {
-        out.number(self.value() as i128)
     }
 }
 

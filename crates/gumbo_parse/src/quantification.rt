@@ -5,7 +5,7 @@ use crate::operator::Quantifier;
 use hw_text::Place;
 
 /// What stands before the body of a quantifier, and where its word stands.
-#[derive(Debug, Drop)]
+#[derive(Drop)]
 pub struct Quantification {
     pub place: Place,
     pub quantifier: Quantifier,

@@ -2,26 +2,20 @@
 
 ghost use Rattle.std.specs.Prelude.{◌≡◌, ◌≤◌, Some, length, slice_get, IfOk};
 ghost use Rattle.gumbo_parse.specs.Flaws.{flaw_at};
-ghost use Rattle.gumbo_parse.specs.Refusals.{syntax, limit, is_semicolon, span, place_in, flawed};
+ghost use Rattle.gumbo_parse.specs.Refusals.{syntax, is_semicolon, span, place_in, flawed};
 
 use crate::flaw::{DEEPEST, Flaw, Flawed, LONGEST};
 use crate::mark::Mark;
 use crate::token::Token;
-use hw_text::{Code, NoMemory, Place, Placed, Refusal, TextBuf};
+use hw_reading::{limit, plain};
+use hw_text::{Code, NoMemory, Place, Placed, Refusal};
 use std::alloc::Global;
 
 /// No contract goes on with what stands there.
 pub fn syntax(alloc: Global, place: Place) -> Refusal
     ensures { result ≡ syntax place }
 {
-    Refusal {
-        code: Code::ContractSyntax,
-        place,
-        word: TextBuf::new(alloc),
-        low: 0,
-        high: 0,
-        length: 0,
-    }
+    plain(alloc, Code::ContractSyntax, place)
 }
 
 /// What is wrong with the token that has the flaw.
@@ -32,13 +26,27 @@ pub fn flawed(alloc: Global, tokens: &[Placed<Token>], flaw: Flawed) -> Result<R
     match flaw.flaw {
         Flaw::TooDeep => {
             let place = place_in(tokens, flaw.index);
-            limit(alloc, "nesting", place, DEEPEST + 1, DEEPEST)
+            limit(
+                alloc,
+                Code::ContractLimit,
+                "nesting",
+                place,
+                DEEPEST + 1,
+                DEEPEST,
+            )
         }
         Flaw::TooLong => {
             let place = place_in(tokens, flaw.index.saturating_sub(LONGEST));
             let (_, rest) = tokens.split_at(flaw.index);
             let further = span(rest);
-            limit(alloc, "tokens", place, LONGEST + further, LONGEST)
+            limit(
+                alloc,
+                Code::ContractLimit,
+                "tokens",
+                place,
+                LONGEST + further,
+                LONGEST,
+            )
         }
     }
 }
@@ -72,25 +80,4 @@ fn is_semicolon(token: &Token) -> bool
     ensures { result ≡ is_semicolon token.now }
 {
     matches!(token, Token::Mark(Mark::Semicolon))
-}
-
-fn limit(
-    alloc: Global,
-    kind: &str,
-    place: Place,
-    counted: usize,
-    allowed: usize,
-) -> Result<Refusal, NoMemory>
-    ensures { IfOk result (λ r. r ≡ limit kind.now place counted allowed) }
-{
-    let mut word = TextBuf::new(alloc);
-    word.word(kind.as_bytes())?;
-    Ok(Refusal {
-        code: Code::ContractLimit,
-        place,
-        word,
-        low: counted as i128,
-        high: allowed as i128,
-        length: 0,
-    })
 }

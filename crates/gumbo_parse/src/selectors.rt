@@ -1,18 +1,17 @@
 //! Reading the fields and indexes behind a name.
 
-ghost use Rattle.std.specs.Prelude.{◌≡◌};
-ghost use Rattle.hw_text.specs.Reading.{Reads, Anything, begins};
+ghost use Rattle.hw_text.specs.Reading.{Reads, Anything};
 ghost use Rattle.gumbo_parse.specs.Grammar.{SpellsParts, SpellsPart, SpellsIndex};
 ghost use Rattle.gumbo_parse.specs.Levels.{part_shapes};
-ghost use Rattle.gumbo_parse.specs.Values.{one_of, Without};
+ghost use Rattle.gumbo_parse.specs.Values.{Without};
 
 use crate::expression::Selector;
-use crate::leaf::shape;
 use crate::leaves::read_field;
 use crate::levels::read_started;
 use crate::mark::Mark;
-use crate::symbols::{sign, stands_sign};
+use crate::shape::Shape;
 use crate::token::Token;
+use hw_reading::{stands, stands_either, symbol};
 use hw_text::{Cursor, Placed, ReadFault, Rows};
 use std::alloc::Global;
 
@@ -25,24 +24,15 @@ pub fn read_parts(
     ensures { Reads SpellsParts (Without part_shapes) tokens.old tokens.new result }
 {
     let mut parts = Rows::new(alloc);
-    'parts: while stands_part(tokens) {
+    'parts: while stands_either(
+        tokens,
+        Shape::Mark(Mark::Dot),
+        Shape::Mark(Mark::OpenBracket),
+    ) {
         let part = read_part(alloc, tokens)?;
         parts.push(part)?;
     }
     Ok(parts)
-}
-
-/// Whether a field or an index is ahead.
-fn stands_part(tokens: &Cursor<'_, Placed<Token>>) -> bool
-    ensures { result ≡ begins (one_of part_shapes) tokens.now }
-{
-    match tokens.peek() {
-        Some(placed) => {
-            let shape = shape(&placed.token);
-            shape == "." || shape == "["
-        }
-        None => false,
-    }
 }
 
 /// Reads a field or an index.
@@ -50,7 +40,7 @@ fn stands_part(tokens: &Cursor<'_, Placed<Token>>) -> bool
 fn read_part(alloc: Global, tokens: &mut Cursor<'_, Placed<Token>>) -> Result<Selector, ReadFault>
     ensures { Reads SpellsPart Anything tokens.old tokens.new result }
 {
-    if stands_sign(tokens, Mark::Dot) {
+    if stands(tokens, Shape::Mark(Mark::Dot)) {
         return read_field(alloc, tokens);
     }
     read_index(alloc, tokens)
@@ -61,8 +51,8 @@ fn read_part(alloc: Global, tokens: &mut Cursor<'_, Placed<Token>>) -> Result<Se
 fn read_index(alloc: Global, tokens: &mut Cursor<'_, Placed<Token>>) -> Result<Selector, ReadFault>
     ensures { Reads SpellsIndex Anything tokens.old tokens.new result }
 {
-    sign(tokens, Mark::OpenBracket)?;
+    symbol(tokens, Shape::Mark(Mark::OpenBracket))?;
     let (start, index) = read_started(alloc, tokens)?;
-    sign(tokens, Mark::CloseBracket)?;
+    symbol(tokens, Shape::Mark(Mark::CloseBracket))?;
     Ok(Selector::Index(start, index))
 }

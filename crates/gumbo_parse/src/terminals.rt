@@ -1,19 +1,17 @@
 //! The tokens that have values of their own.
 
-ghost use Rattle.std.specs.Prelude.{◌≡◌, [], ◌∷◌, codes, refl, Some, IfOk};
-ghost use Rattle.gumbo_parse.specs.declared.class.BaseType.TheVariants.{Unsigned8};
+ghost use Rattle.std.specs.Prelude.{◌≡◌, [], codes, refl, Some, IfOk};
 ghost use Rattle.gumbo_parse.specs.declared.token.Token.TheVariants as token;
 ghost use Rattle.gumbo_parse.specs.ClassNames.{other_of};
-ghost use Rattle.gumbo_parse.specs.Values.{shape, name_shapes, name_of, number_of, text_of, base_of, base_name, start};
+ghost use Rattle.gumbo_parse.specs.ShapeSamples.{a_base};
+ghost use Rattle.gumbo_parse.specs.Values.{name_of, number_of, text_of, base_of, start};
 
-use crate::class::BaseType;
 use crate::class_name::ClassName;
 use crate::description::Description;
 use crate::expression::Named;
-use crate::integer::Integer;
-use crate::leaf::{Terminal, shape};
 use crate::token::Token;
-use hw_text::{NoMemory, Place, Placed};
+use hw_reading::{Integer, Terminal};
+use hw_text::{BaseType, NoMemory, Place, Placed};
 use std::alloc::Global;
 
 /// The name that the token is, and where it stands.
@@ -33,19 +31,14 @@ fn name_of(token: &Placed<Token>) -> Result<Option<Named>, NoMemory>
 pub struct NameAt;
 
 impl Terminal for NameAt {
+    type Token = Token;
+
     type Value = Named;
 
     ghost value = { name_of };
 
-    ghost shapes = { name_shapes };
-
     fn value(_alloc: Global, token: &Placed<Token>) -> Result<Option<Self::Value>, NoMemory> {
         name_of(token)
-    }
-
-    fn is_shaped(token: &Placed<Token>) -> bool {
-        let shape = shape(&token.token);
-        shape == "NAME" || shape == "base_types"
     }
 
     ghost sample = { (record { token = token.Name (codes "a"); place = start }, record { name = codes "a"; place = start }, refl) };
@@ -55,21 +48,17 @@ impl Terminal for NameAt {
 pub struct OtherNameAt;
 
 impl Terminal for OtherNameAt {
+    type Token = Token;
+
     type Value = ClassName;
 
     ghost value = { other_of };
-
-    ghost shapes = { codes "NAME" ∷ [] };
 
     fn value(_alloc: Global, token: &Placed<Token>) -> Result<Option<Self::Value>, NoMemory> {
         match &token.token {
             Token::Name(name) => Ok(ClassName::of(name.copy()?, token.place)),
             _ => Ok(None),
         }
-    }
-
-    fn is_shaped(token: &Placed<Token>) -> bool {
-        shape(&token.token) == "NAME"
     }
 
     ghost sample = { (record { token = token.Name (codes "a"); place = start }, record { name = codes "a"; place = start; other = refl }, refl) };
@@ -79,21 +68,17 @@ impl Terminal for OtherNameAt {
 pub struct NumberAt;
 
 impl Terminal for NumberAt {
+    type Token = Token;
+
     type Value = (Place, Integer);
 
     ghost value = { number_of };
-
-    ghost shapes = { codes "INT" ∷ [] };
 
     fn value(_alloc: Global, token: &Placed<Token>) -> Result<Option<Self::Value>, NoMemory> {
         match &token.token {
             Token::Number(number) => Ok(Some((token.place, Integer::new(number.value())))),
             _ => Ok(None),
         }
-    }
-
-    fn is_shaped(token: &Placed<Token>) -> bool {
-        shape(&token.token) == "INT"
     }
 
     ghost sample = { (record { token = token.Number 0; place = start }, (start, 0), refl) };
@@ -103,21 +88,17 @@ impl Terminal for NumberAt {
 pub struct TextAt;
 
 impl Terminal for TextAt {
+    type Token = Token;
+
     type Value = Description;
 
     ghost value = { text_of };
-
-    ghost shapes = { codes "STRING" ∷ [] };
 
     fn value(_alloc: Global, token: &Placed<Token>) -> Result<Option<Self::Value>, NoMemory> {
         match &token.token {
             Token::Text(text) => Ok(Some(text.copy()?)),
             _ => Ok(None),
         }
-    }
-
-    fn is_shaped(token: &Placed<Token>) -> bool {
-        shape(&token.token) == "STRING"
     }
 
     ghost sample = { (record { token = token.Text []; place = start }, [], refl) };
@@ -127,11 +108,11 @@ impl Terminal for TextAt {
 pub struct BaseAt;
 
 impl Terminal for BaseAt {
+    type Token = Token;
+
     type Value = BaseType;
 
     ghost value = { base_of };
-
-    ghost shapes = { name_shapes };
 
     fn value(_alloc: Global, token: &Placed<Token>) -> Result<Option<Self::Value>, NoMemory> {
         match &token.token {
@@ -140,10 +121,5 @@ impl Terminal for BaseAt {
         }
     }
 
-    fn is_shaped(token: &Placed<Token>) -> bool {
-        let shape = shape(&token.token);
-        shape == "NAME" || shape == "base_types"
-    }
-
-    ghost sample = { (record { token = token.Name (codes "unsigned_8"); place = start }, Unsigned8, refl) };
+    ghost sample = { a_base };
 }

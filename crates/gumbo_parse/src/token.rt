@@ -2,12 +2,12 @@
 
 use crate::description::Description;
 use crate::identifier::Identifier;
-use crate::integer::Integer;
 use crate::mark::Mark;
 use crate::word::Word;
+use hw_reading::Integer;
 
 /// A token. Case does not matter in names and words.
-#[derive(Debug, Drop)]
+#[derive(Drop)]
 pub enum Token {
     Name(Identifier),
     Word(Word),

@@ -5,7 +5,7 @@ ghost use Rattle.hw_text.specs.Name.{is_same_word};
 ghost use Rattle.gumbo_parse.specs.Words.{word_spelling, word_among, word_named};
 
 /// A word that the grammar quotes, and that is no name.
-#[derive(Clone, Copy, Debug, PartialEq, Eq)]
+#[derive(Clone, Copy, PartialEq, Eq)]
 pub enum Word {
     State,
     Integration,

@@ -4,7 +4,8 @@ use crate::bytes::number;
 use crate::question::Question;
 use crate::telling::{tell_line, tell_number};
 use crate::trouble::Trouble;
-use hw_text::{Boxed, ByteList, Cursor, Duplicate, NoMemory, Rows, TextBuf, WordList, front};
+use hw_text::{Boxed, ByteList, Cursor, NoMemory, Rows, TextBuf, WordList, front};
+use hw_types::Copied;
 use std::alloc::Global;
 
 /// Whether the question is one of lists.
@@ -42,7 +43,7 @@ pub fn tell_numbers(out: &mut TextBuf, numbers: &[i128]) -> Result<(), NoMemory>
 
 /// A copy of a list.
 fn copied(alloc: Global, words: &WordList, out: &mut TextBuf) -> Result<(), Trouble> {
-    let copy = numbers(alloc, words)?.duplicate(alloc)?;
+    let copy = numbers(alloc, words)?.copy()?;
     out.word(b"copy")?;
     Ok(tell_numbers(out, copy.rows())?)
 }

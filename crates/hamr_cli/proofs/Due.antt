@@ -1,4 +1,4 @@
--- From what is told of a command to its answer.
+-- From the report on a command to its answer.
 use Rattle.std.proofs.Common.{◌≡◌, ℕ, true, List, [], refl, sym, ◌∙◌, subst, arith, inl, inr}
 use Rattle.hw_io.specs.Meaning.{StoreMeaning}
 use Rattle.hw_text.specs.declared.document.Document.{Document}
@@ -12,13 +12,13 @@ use Rattle.hamr_cli.specs.Command.{Command}
 use Rattle.hamr_cli.specs.Files.{HasWritten, HoldsTheSame}
 use Rattle.hamr_cli.specs.Inner.{IsOnlyRead, IsUnread}
 use Rattle.hamr_cli.specs.Output.{Gives}
-use Rattle.hamr_cli.specs.Reads.{Names, IsTold, IsTurnOf}
+use Rattle.hamr_cli.specs.Reads.{Names, TellsInput, IsTurnOf}
 use Rattle.hamr_cli.specs.Status.{IsOfContent}
 
 -- a command that reads a file has its output over stores that tell
-pub told_store : (store : StoreMeaning) (command : Command) (file : List ℕ) → Names command file → IsTold store command → store.tells ≡ true
-told_store store command file named (inl tells) = tells
-told_store store command file named (inr none) = absurd (none file named)
+pub telling_store : (store : StoreMeaning) (command : Command) (file : List ℕ) → Names command file → TellsInput store command → store.tells ≡ true
+telling_store store command file named (inl tells) = tells
+telling_store store command file named (inr none) = absurd (none file named)
 
 -- nothing is written where each name holds what it held
 pub wrote_nothing : (before after : StoreMeaning) → HoldsTheSame before after → HasWritten before after [] 0
@@ -29,16 +29,16 @@ wrote_nothing before after kept = record {
 
 -- a report alone is the output of a command
 pub output_due : (command : Command) (before after : StoreMeaning) (report : Report) → IsOfContent report.status → HoldsTheSame before after →
-    (IsTold before command → Gives before.held command (record { report = report; files = [] })) → IsDue command before after report
+    (TellsInput before command → Gives before.held command (record { report = report; files = [] })) → IsDue command before after report
 output_due command before after report content kept gives = inl (record {
   output = record { report = report; files = [] };
-  told = refl;
+  reported = refl;
   content = content;
   gives = gives;
   left = wrote_nothing before after kept;
 })
 
--- a file that was not read is told in the place of the output
+-- a file that was not read is reported in the place of the output
 pub unread_due : (command : Command) (before after : StoreMeaning) (file : List ℕ) (report : Report) → IsTurnOf before command file → HoldsTheSame before after →
     IsUnread before after file report → IsDue command before after report
 unread_due command before after file report turn kept (inl missing) = inr (inl (record {
@@ -46,14 +46,14 @@ unread_due command before after file report turn kept (inl missing) = inr (inl (
   turn = turn;
   rose = missing.rose;
   missing = missing.missing;
-  told = missing.told;
+  reported = missing.reported;
   left = kept;
 }))
 unread_due command before after file report turn kept (inr failed) = inr (inr (inl (record {
   file = file;
   turn = turn;
   rose = failed.rose;
-  told = failed.told;
+  reported = failed.reported;
   left = kept;
 })))
 
@@ -63,11 +63,11 @@ pub unread_earlier : (before between after : StoreMeaning) (file : List ℕ) (re
 unread_earlier before between after file report read (inl missing) = inl (record {
   rose = λ below. omega (arith, read.absences file, missing.rose (omega (arith)));
   missing = λ tells. sym (read.held file) ∙ missing.missing (read.tells ∙ tells);
-  told = missing.told;
+  reported = missing.reported;
 })
 unread_earlier before between after file report read (inr failed) = inr (record {
   rose = λ below. omega (arith, read.read_faults file, failed.rose (omega (arith)));
-  told = failed.told;
+  reported = failed.reported;
 })
 
 -- a refused text has a status that contents decide
@@ -79,4 +79,4 @@ document_content document.Trace = inr (inr (inr (inr refl)))
 document_content document.RunFile = inr (inr (inr (inr refl)))
 
 pub refused_content : (file : List ℕ) (refusal : Refusal) (report : Report) → report ≡ report_of (refused file refusal) → IsOfContent report.status
-refused_content file refusal report told = subst (λ (r : Report). IsOfContent r.status) (sym told) (document_content (document_of refusal.code))
+refused_content file refusal report reported = subst (λ (r : Report). IsOfContent r.status) (sym reported) (document_content (document_of refusal.code))

@@ -6,13 +6,13 @@ use Rattle.arch_model.specs.declared.parts.ArchParts.{ArchParts}
 use Rattle.hw_text.specs.declared.no_memory.NoMemory.{NoMemory}
 use Rattle.hamr_cli.specs.declared.files.Stop.{Stop}
 use Rattle.hamr_cli.specs.declared.files.Stop.TheVariants as stop
-use Rattle.hamr_cli.specs.Inner.{OnStopped, OnTold, UnreadAs}
+use Rattle.hamr_cli.specs.Inner.{OnStopped, OnReport, UnreadAs}
 use Rattle.hamr_cli.specs.declared.judgement.Judgement.{Judgement}
 use Rattle.hamr_cli.specs.declared.judgement.Judgement.TheVariants as judgement
 use Rattle.hamr_cli.specs.declared.trace.fault.TraceFault.{TraceFault}
 use Rattle.hamr_cli.specs.declared.trace.fault.TraceFault.TheVariants as fault
 use Rattle.hamr_cli.specs.declared.trace.line.Line.{Line}
-use Rattle.hamr_cli.specs.Judge.{IsJudgedTrace, IsJudgedBy, IsJudged, JudgeTells}
+use Rattle.hamr_cli.specs.Judge.{IsJudgedTrace, IsJudgedBy, IsJudged, JudgeReports}
 use Rattle.hamr_cli.specs.Trace.{IsTraceOf, IsFirstBadLine}
 use Rattle.hamr_cli.specs.TraceFault.{OnBadLine, GivesTrace, GivesBadLine}
 
@@ -36,21 +36,21 @@ judged-by held tree trace (judgement.BadLine number) by = by
 judged-by held tree trace judgement.Legal by = by
 judged-by held tree trace (judgement.Illegal number rule) by = by
 
--- what holds of a command's own report, and what of a report in its place, is a fact of what is told
-pub told-by : (told : Result Report Stop) (Due Content Given Unread Thin : Report → Type 0) →
-    IfOk told Content → IfOk told Given → OnStopped told Unread → OnStopped told Thin →
-    ((report : Report) → Content report → Given report → Due report) → ((report : Report) → Unread report → Thin report → Due report) → OnTold told Due
-told-by (Ok report) Due Content Given Unread Thin content given unread thin own other = own report content given
-told-by (Err (stop.Told report)) Due Content Given Unread Thin content given unread thin own other = other report unread thin
-told-by (Err stop.NoMemory) Due Content Given Unread Thin content given unread thin own other = tt
+-- what holds of a command's own report, and what of a report in its place, is a fact of what is printed
+pub report-by : (given : Result Report Stop) (Due Content Given Unread Thin : Report → Type 0) →
+    IfOk given Content → IfOk given Given → OnStopped given Unread → OnStopped given Thin →
+    ((report : Report) → Content report → Given report → Due report) → ((report : Report) → Unread report → Thin report → Due report) → OnReport given Due
+report-by (Ok report) Due Content Given Unread Thin content given unread thin own other = own report content given
+report-by (Err (stop.Instead report)) Due Content Given Unread Thin content given unread thin own other = other report unread thin
+report-by (Err stop.NoMemory) Due Content Given Unread Thin content given unread thin own other = tt
 
--- a fact of every report is one of what is told in the place of a result
+-- a fact of every report is one of the report in the place of a result
 pub OnStopped-all : {X : Type 0} (answer : Result X Stop) (Q : Report → Type 0) → ((report : Report) → Q report) → OnStopped answer Q
 OnStopped-all (Ok x) Q each = tt
-OnStopped-all (Err (stop.Told report)) Q each = each report
+OnStopped-all (Err (stop.Instead report)) Q each = each report
 OnStopped-all (Err stop.NoMemory) Q each = tt
 
--- what is told of files that were held before
+-- the report on files that were held before
 judged-earlier : (held after : List ℕ → Option (List ℕ)) (tree : Package) (trace : List ℕ) (found : Judgement) → ((name : List ℕ) → after name ≡ held name) → IsJudgedBy after tree trace found → IsJudgedBy held tree trace found
 judged-earlier held after tree trace found kept by = record {
   arch = by.arch;
@@ -69,9 +69,9 @@ earlier held after tree trace (judgement.BadLine number) kept by = judged-earlie
 earlier held after tree trace judgement.Legal kept by = judged-earlier held after tree trace judgement.Legal kept by
 earlier held after tree trace (judgement.Illegal number rule) kept by = judged-earlier held after tree trace (judgement.Illegal number rule) kept by
 
-pub tells-earlier : (held after : List ℕ → Option (List ℕ)) (model trace : List ℕ) (tree : Package) (report : Report) → ((name : List ℕ) → after name ≡ held name) → JudgeTells after model trace tree report → JudgeTells held model trace tree report
-tells-earlier held after model trace tree report kept tells = record {
-  found = tells.found;
-  judged = earlier held after tree trace tells.found kept tells.judged;
-  told = tells.told;
+pub reports-earlier : (held after : List ℕ → Option (List ℕ)) (model trace : List ℕ) (tree : Package) (report : Report) → ((name : List ℕ) → after name ≡ held name) → JudgeReports after model trace tree report → JudgeReports held model trace tree report
+reports-earlier held after model trace tree report kept reports = record {
+  found = reports.found;
+  judged = earlier held after tree trace reports.found kept reports.judged;
+  reported = reports.reported;
 }

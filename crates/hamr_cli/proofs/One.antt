@@ -1,4 +1,4 @@
--- What the files hold decides what is told.
+-- What the files hold decides the report.
 use Rattle.std.proofs.Common.{◌≡◌, ℕ, suc, List, [], ◌∷◌, ◌++◌, length, Option, refl, ap, sym, ◌∙◌, subst, arith}
 use Rattle.arch_model.specs.declared.parts.ArchParts.{ArchParts}
 use Rattle.rts_rules.specs.declared.event.Event.{Event}
@@ -20,7 +20,7 @@ use Rattle.hamr_cli.specs.declared.report.Report.{Report}
 use Rattle.hamr_cli.specs.Cause.{report_of, refused}
 use Rattle.hamr_cli.specs.ModelFile.{OnModel}
 use Rattle.hamr_cli.specs.Tidy.{IsTidied}
-use Rattle.hamr_cli.specs.Judge.{IsJudgedBy, IsJudged, JudgeTells, told_of, events_of}
+use Rattle.hamr_cli.specs.Judge.{IsJudgedBy, IsJudged, JudgeReports, report_of_judgement, events_of}
 use Rattle.hamr_cli.specs.Output.{Output, PrintsAlone, OutputIsOne}
 use Rattle.hamr_cli.specs.Command.{judge, tidy}
 
@@ -129,35 +129,35 @@ judgement-one held tree trace (judgement.Illegal number rule) judgement.Legal on
 judgement-one held tree trace (judgement.Illegal number rule) (judgement.Illegal number' rule') one other = judged-one held tree trace (judgement.Illegal number rule) (judgement.Illegal number' rule') one other
 
 -- a file is one model, or refused for one cause
-model-one : (held : List ℕ → Option (List ℕ)) (model : List ℕ) (Tells : Package → Report → Type 0) → ((p : Package) (r s : Report) → Tells p r → Tells p s → r ≡ s) →
-    (r s : Report) → OnModel held model Tells r → OnModel held model Tells s → r ≡ s
-model-one held model Tells one r s (inl h) (inl k) =
+model-one : (held : List ℕ → Option (List ℕ)) (model : List ℕ) (Reports : Package → Report → Type 0) → ((p : Package) (r s : Report) → Reports p r → Reports p s → r ≡ s) →
+    (r s : Report) → OnModel held model Reports r → OnModel held model Reports s → r ≡ s
+model-one held model Reports one r s (inl h) (inl k) =
     let bytes = same_Some k.bytes h.bytes (sym k.model_held ∙ h.model_held) in
     let refusal = h.rejected.only k.refusal (subst (λ (b : List ℕ). IsRefusedAs model_rules b k.refusal) bytes k.rejected.refused) in
-    h.told ∙ ap (λ (x : Refusal). report_of (refused model x)) (sym refusal) ∙ sym k.told
-model-one held model Tells one r s (inl h) (inr k) =
+    h.reported ∙ ap (λ (x : Refusal). report_of (refused model x)) (sym refusal) ∙ sym k.reported
+model-one held model Reports one r s (inl h) (inr k) =
     absurd (h.rejected.no_text k.tree (subst (λ (b : List ℕ). IsTextOf model_rules b k.tree) (same_Some k.bytes h.bytes (sym k.model_held ∙ h.model_held)) k.accepted.text))
-model-one held model Tells one r s (inr h) (inl k) =
+model-one held model Reports one r s (inr h) (inl k) =
     absurd (k.rejected.no_text h.tree (subst (λ (b : List ℕ). IsTextOf model_rules b h.tree) (same_Some h.bytes k.bytes (sym h.model_held ∙ k.model_held)) h.accepted.text))
-model-one held model Tells one r s (inr h) (inr k) =
+model-one held model Reports one r s (inr h) (inr k) =
     let bytes = same_Some k.bytes h.bytes (sym k.model_held ∙ h.model_held) in
     let tree = h.accepted.only k.tree (subst (λ (b : List ℕ). IsTextOf model_rules b k.tree) bytes k.accepted.text) in
-    one h.tree r s h.tells (subst (λ (p : Package). Tells p s) tree k.tells)
+    one h.tree r s h.reports (subst (λ (p : Package). Reports p s) tree k.reports)
 
-judge-one : (held : List ℕ → Option (List ℕ)) (model trace : List ℕ) (p : Package) (r s : Report) → JudgeTells held model trace p r → JudgeTells held model trace p s → r ≡ s
+judge-one : (held : List ℕ → Option (List ℕ)) (model trace : List ℕ) (p : Package) (r s : Report) → JudgeReports held model trace p r → JudgeReports held model trace p s → r ≡ s
 judge-one held model trace p r s h k =
-    h.told ∙ ap (λ (found : Judgement). told_of model trace found) (judgement-one held p trace h.found k.found h.judged k.judged) ∙ sym k.told
+    h.reported ∙ ap (λ (found : Judgement). report_of_judgement model trace found) (judgement-one held p trace h.found k.found h.judged k.judged) ∙ sym k.reported
 
 -- a command that writes nothing has one output, where it has one report
-alone-one : (Tells : Report → Type 0) → ((r s : Report) → Tells r → Tells s → r ≡ s) → (one other : Output) → PrintsAlone Tells one → PrintsAlone Tells other → one ≡ other
-alone-one Tells same one other h k =
-    let reports = same one.report other.report h.tells k.tells in
+alone-one : (Reports : Report → Type 0) → ((r s : Report) → Reports r → Reports s → r ≡ s) → (one other : Output) → PrintsAlone Reports one → PrintsAlone Reports other → one ≡ other
+alone-one Reports same one other h k =
+    let reports = same one.report other.report h.reports k.reports in
     let files : one.files ≡ other.files = h.no_files ∙ sym k.no_files in
     rw (reports, files) refl
 
 -- there is one output
 pub output-one : OutputIsOne
 output-one held (judge model trace) one other gives gives' =
-    alone-one (OnModel held model (JudgeTells held model trace)) (model-one held model (JudgeTells held model trace) (judge-one held model trace)) one other gives gives'
+    alone-one (OnModel held model (JudgeReports held model trace)) (model-one held model (JudgeReports held model trace) (judge-one held model trace)) one other gives gives'
 output-one held (tidy model) one other gives gives' =
-    alone-one (OnModel held model IsTidied) (model-one held model IsTidied (λ p r s h k. h.told ∙ sym k.told)) one other gives gives'
+    alone-one (OnModel held model IsTidied) (model-one held model IsTidied (λ p r s h k. h.reported ∙ sym k.reported)) one other gives gives'

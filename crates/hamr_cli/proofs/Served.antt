@@ -12,19 +12,19 @@ use Rattle.hamr_cli.specs.Answer.{IsDue, IsForAbsence, IsForReadFault, IsForWrit
 use Rattle.hamr_cli.specs.Cause.{report_of, words}
 use Rattle.hamr_cli.specs.Command.{Command, judge, tidy, IsRow, IsNoRow}
 use Rattle.hamr_cli.specs.Complete.{Serves, IsDone, IsDoneOrNoMemory}
-use Rattle.hamr_cli.specs.Judge.{IsJudged, JudgeTells, AreAccepted, told_of}
+use Rattle.hamr_cli.specs.Judge.{IsJudged, JudgeReports, AreAccepted, report_of_judgement}
 use Rattle.hamr_cli.specs.ModelFile.{RefusesModel, TakesModel, OnModel, HoldsPackage}
 use Rattle.hamr_cli.specs.Outside.{Outside}
 use Rattle.hamr_cli.specs.Output.{Output, Gives, Accepts}
 use Rattle.hamr_cli.specs.Reads.{Reads, IsTurnOf}
 use Rattle.hamr_cli.specs.Status.{IsSuccess, IsWordsOrNothing}
 use Rattle.hamr_cli.specs.Tidy.{IsTidied}
-use Rattle.hamr_cli.proofs.Due.{told_store}
+use Rattle.hamr_cli.proofs.Due.{telling_store}
 use Rattle.hamr_cli.proofs.Rows.{row-one}
 
 -- the package in the file is the one that is read there
-same-package : (held : List ℕ → Option (List ℕ)) (model : List ℕ) (Tells : Package → Report → Type 0) (report : Report) (p : Package) → HoldsPackage held model p → (t : TakesModel held model Tells report) → p ≡ t.tree
-same-package held model Tells report p holds takes =
+same-package : (held : List ℕ → Option (List ℕ)) (model : List ℕ) (Reports : Package → Report → Type 0) (report : Report) (p : Package) → HoldsPackage held model p → (t : TakesModel held model Reports report) → p ≡ t.tree
+same-package held model Reports report p holds takes =
     takes.accepted.only p (subst (λ (b : List ℕ). IsTextOf model_rules b p) (same_Some holds.bytes takes.bytes (sym holds.model_held ∙ takes.model_held)) holds.is_text)
 
 not-refused : (held : List ℕ → Option (List ℕ)) (model : List ℕ) (report : Report) (p : Package) → HoldsPackage held model p → RefusesModel held model report → ⊥
@@ -33,7 +33,7 @@ not-refused held model report p holds refuses =
 
 -- two accepted files are judged by the rules
 judged-accepted : (held : List ℕ → Option (List ℕ)) (model trace : List ℕ) (tree : Package) (found : Judgement) (files : AreAccepted held model trace) → files.tree ≡ tree →
-    IsJudged held tree trace found → IsSuccess (told_of model trace found).status
+    IsJudged held tree trace found → IsSuccess (report_of_judgement model trace found).status
 judged-accepted held model trace tree judgement.NotBuilt files same judged = absurd (judged files.arch (rw (← same) files.is_thin))
 judged-accepted held model trace tree (judgement.BadLine number) files same judged =
     let arch = judged.only files.arch (rw (← same) files.is_thin) in
@@ -43,30 +43,30 @@ judged-accepted held model trace tree (judgement.BadLine number) files same judg
 judged-accepted held model trace tree judgement.Legal files same judged = inl refl
 judged-accepted held model trace tree (judgement.Illegal number rule) files same judged = inr refl
 
-judge-success : (held : List ℕ → Option (List ℕ)) (model trace : List ℕ) (report : Report) → OnModel held model (JudgeTells held model trace) report → AreAccepted held model trace → IsSuccess report.status
+judge-success : (held : List ℕ → Option (List ℕ)) (model trace : List ℕ) (report : Report) → OnModel held model (JudgeReports held model trace) report → AreAccepted held model trace → IsSuccess report.status
 judge-success held model trace report (inl refuses) files = absurd (not-refused held model report files.tree files.is_model refuses)
 judge-success held model trace report (inr takes) files =
-    let tells = takes.tells in
-    subst (λ (r : Report). IsSuccess r.status) (sym tells.told)
-    (judged-accepted held model trace takes.tree tells.found files (same-package held model (JudgeTells held model trace) report files.tree files.is_model takes) tells.judged)
+    let reports = takes.reports in
+    subst (λ (r : Report). IsSuccess r.status) (sym reports.reported)
+    (judged-accepted held model trace takes.tree reports.found files (same-package held model (JudgeReports held model trace) report files.tree files.is_model takes) reports.judged)
 
 tidy-success : (held : List ℕ → Option (List ℕ)) (model : List ℕ) (report : Report) → OnModel held model IsTidied report → (tree : Package) → HoldsPackage held model tree → IsSuccess report.status
 tidy-success held model report (inl refuses) tree holds = absurd (not-refused held model report tree holds refuses)
-tidy-success held model report (inr takes) tree holds = subst (λ (r : Report). IsSuccess r.status) (sym takes.tells.told) (inl refl)
+tidy-success held model report (inr takes) tree holds = subst (λ (r : Report). IsSuccess r.status) (sym takes.reports.reported) (inl refl)
 
 -- the output of a command whose files are accepted
 success : (held : List ℕ → Option (List ℕ)) (command : Command) (output : Output) → Gives held command output → Accepts held command → IsSuccess output.report.status
-success held (judge model trace) output gives files = judge-success held model trace output.report gives.tells files
-success held (tidy model) output gives files = tidy-success held model output.report gives.tells files.0 files.1
+success held (judge model trace) output gives files = judge-success held model trace output.report gives.reports files
+success held (tidy model) output gives files = tidy-success held model output.report gives.reports files.0 files.1
 
 -- the command comes to read a file whose turn it was
 turn-reads : (before after : Outside) (command : Command) (file : List ℕ) → Serves before after command → IsTurnOf before.store command file → Reads before.store.held command file
-turn-reads before after command file serves turn = turn.reads (told_store before.store command file turn.named serves.told)
+turn-reads before after command file serves turn = turn.reads (telling_store before.store command file turn.named serves.input)
 
 not-absent : (command : Command) (before after : Outside) (report : Report) → Serves before after command → IsForAbsence command before.store after.store report → ⊥
 not-absent command before after report serves absence =
     let held = serves.held absence.file (turn-reads before after command absence.file serves absence.turn) in
-    let none : IsSome {T = List ℕ} None = subst (λ (o : Option (List ℕ)). IsSome o) (absence.missing (told_store before.store command absence.file absence.turn.named serves.told)) held in
+    let none : IsSome {T = List ℕ} None = subst (λ (o : Option (List ℕ)). IsSome o) (absence.missing (telling_store before.store command absence.file absence.turn.named serves.input)) held in
     cc
 
 not-unread : (command : Command) (before after : Outside) (report : Report) → Serves before after command → IsForReadFault command before.store after.store report → ⊥
@@ -75,19 +75,19 @@ not-unread command before after report serves failed =
 
 not-unwritten : (command : Command) (before after : Outside) (report : Report) → Serves before after command → IsForWriteFault command before.store after.store report → ⊥
 not-unwritten command before after report serves failed =
-    serves.writable failed.output failed.place failed.file (failed.gives serves.told) failed.is_file failed.rose
+    serves.writable failed.output failed.place failed.file (failed.gives serves.input) failed.is_file failed.rose
 
 -- what was due and is printed whole is the output
 due-done : (command : Command) (before after : Outside) (report : Report) (answer : Status) → Serves before after command →
     IsDue command before.store after.store report → IsPrintedWhole report before.sink after.sink answer → IsDone before after command answer
 due-done command before after report answer serves (inl due) whole =
-    let gives = due.gives serves.told in
-    let answered : answer ≡ due.output.report.status = whole.answered ∙ ap (λ (r : Report). r.status) due.told in
+    let gives = due.gives serves.input in
+    let answered : answer ≡ due.output.report.status = whole.answered ∙ ap (λ (r : Report). r.status) due.reported in
     record {
       output = due.output;
       gives = gives;
       answered = answered;
-      went_out = rw (← due.told) whole.went_out;
+      went_out = rw (← due.reported) whole.went_out;
       left = due.left;
       accepted = λ files. subst IsSuccess (sym answered) (success before.store.held command due.output gives files);
     }

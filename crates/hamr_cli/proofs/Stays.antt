@@ -35,7 +35,7 @@ of_tidy after file report again tidy_text held (inl refuses) =
 of_tidy after file report again tidy_text held (inr takes) =
     let bytes = same_Some takes.bytes report.text (sym takes.model_held ∙ held) in
     let tree = takes.accepted.only tidy_text.tree (subst (λ (bs : List ℕ). IsTextOf model_rules bs tidy_text.tree) (sym bytes) tidy_text.is_text) in
-    takes.tells.told ∙ ap tidied (sym tree) ∙ tidy_text.same
+    takes.reports.reported ∙ ap tidied (sym tree) ∙ tidy_text.same
 
 tidy-of : (held : List ℕ → Option (List ℕ)) (model : List ℕ) (p : Package) (report : Report) → HoldsPackage held model p → IsWithinLimits p → OnModel held model IsTidied report → IsTidyText report
 tidy-of held model p report holds limits (inl refuses) =
@@ -44,10 +44,10 @@ tidy-of held model p report holds limits (inl refuses) =
 tidy-of held model p report holds limits (inr takes) =
     let bytes = same_Some takes.bytes holds.bytes (sym takes.model_held ∙ holds.model_held) in
     let tree = takes.accepted.only p (subst (λ (bs : List ℕ). IsTextOf model_rules bs p) (sym bytes) holds.is_text) in
-    takes.tells.stays (subst IsWithinLimits tree limits)
+    takes.reports.stays (subst IsWithinLimits tree limits)
 
 pub tidied-stays : TidiedStays
 tidied-stays held after model file p output again holds limits gives kept gives' =
-    let reports = of_tidy after file output.report again.report (tidy-of held model p output.report holds limits gives.tells) kept gives'.tells in
+    let reports = of_tidy after file output.report again.report (tidy-of held model p output.report holds limits gives.reports) kept gives'.reports in
     let files : again.files ≡ output.files = gives'.no_files ∙ sym gives.no_files in
     rw (reports, files) refl

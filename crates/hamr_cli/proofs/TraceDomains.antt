@@ -9,7 +9,7 @@ use Rattle.arch_model.specs.declared.id.PdId.{PdId}
 use Rattle.arch_model.specs.declared.pd.Pd.{Pd}
 use Rattle.arch_model.specs.Arch.{IsWellFormed}
 use Rattle.arch_model.specs.LookUp.{pd_named, pd_named_from}
-use Rattle.rts_rules.specs.Step.{IsDevice}
+use Rattle.rts_rules.specs.Domain.{IsDevice}
 use Rattle.hamr_cli.specs.TraceText.{domain_name}
 use Rattle.hamr_cli.proofs.TracePairs.{AllPairs-tail, AllPairs-head, same_names, other_names}
 

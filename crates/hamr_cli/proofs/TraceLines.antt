@@ -90,7 +90,7 @@ pub trace-end : (arch : ArchParts) (bytes : List ℕ) (lines : List Line) (rest 
 trace-end arch bytes lines rest r none all_lines trace =
     lines-end arch bytes lines rest r none all_lines [] trace.fits (none-begins arch) (trace.text ∙ sym (append-nil (trace_text arch all_lines)))
 
--- the line that is told is the one behind those that are read
+-- the line that is refused is the one behind those that are read
 pub bad-end : (arch : ArchParts) (bytes : List ℕ) (lines : List Line) (rest : List ℕ) → ReadsLines arch bytes lines rest → NoLineBegins arch rest →
     (number : ℕ) (bad : HasBadLine arch bytes number) → (length lines + 1 ≡ number) × (rest ≡ bad.rest)
 bad-end arch bytes lines rest r none number bad =

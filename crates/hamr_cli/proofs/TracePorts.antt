@@ -10,7 +10,7 @@ use Rattle.arch_model.specs.declared.id.PdId.{PdId}
 use Rattle.arch_model.specs.declared.id.PortId.{PortId}
 use Rattle.arch_model.specs.declared.port.Port.{Port}
 use Rattle.arch_model.specs.Arch.{IsWellFormed, HaveOwnNames}
-use Rattle.rts_rules.specs.Step.{IsPortOf}
+use Rattle.rts_rules.specs.Domain.{IsPortOf}
 use Rattle.hamr_cli.specs.TracePort.{is_same, is_port, port_from}
 use Rattle.hamr_cli.specs.TraceText.{port_name}
 use Rattle.hamr_cli.proofs.TracePairs.{AllPairs-tail, AllPairs-head, same_names}

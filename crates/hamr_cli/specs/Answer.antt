@@ -10,15 +10,15 @@ use Rattle.hamr_cli.specs.Command.{Command, IsRow, IsNoRow}
 use Rattle.hamr_cli.specs.Files.{File, HasWritten, HoldsTheSame}
 use Rattle.hamr_cli.specs.Outside.{Outside}
 use Rattle.hamr_cli.specs.Output.{Output, Gives}
-use Rattle.hamr_cli.specs.Reads.{IsTurnOf, IsTold}
+use Rattle.hamr_cli.specs.Reads.{IsTurnOf, TellsInput}
 use Rattle.hamr_cli.specs.Status.{IsOfContent}
 
 -- the command's own output is to be printed, and its files are written
 pub record IsForOutput (command : Command) (before after : StoreMeaning) (report : Report) : Type 0 where
   pub output : Output
-  pub told : report ≡ output.report
+  pub reported : report ≡ output.report
   pub content : IsOfContent report.status
-  pub gives : IsTold before command → Gives before.held command output
+  pub gives : TellsInput before command → Gives before.held command output
   pub left : HasWritten before after output.files (length output.files)
 
 -- a file of the command, whose turn it was, was not there
@@ -27,7 +27,7 @@ pub record IsForAbsence (command : Command) (before after : StoreMeaning) (repor
   pub turn : IsTurnOf before command file
   pub rose : FoundNothing before after file
   pub missing : before.tells ≡ true → before.held file ≡ None
-  pub told : report ≡ report_of (absent file)
+  pub reported : report ≡ report_of (absent file)
   pub left : HoldsTheSame before after
 
 -- a file of the command, whose turn it was, could not be read
@@ -35,18 +35,18 @@ pub record IsForReadFault (command : Command) (before after : StoreMeaning) (rep
   pub file : List ℕ
   pub turn : IsTurnOf before command file
   pub rose : ReadFailed before after file
-  pub told : report ≡ report_of (read_fault file)
+  pub reported : report ≡ report_of (read_fault file)
   pub left : HoldsTheSame before after
 
 -- a file of the command's output, whose turn it was, could not be written
 pub record IsForWriteFault (command : Command) (before after : StoreMeaning) (report : Report) : Type 0 where
   pub output : Output
-  pub gives : IsTold before command → Gives before.held command output
+  pub gives : TellsInput before command → Gives before.held command output
   pub place : ℕ
   pub file : File
   pub is_file : slice_get output.files place ≡ Some file
   pub rose : WriteFailed before after file.name
-  pub told : report ≡ report_of (write_fault file.name)
+  pub reported : report ≡ report_of (write_fault file.name)
   pub left : HasWritten before after output.files place
 
 -- what is to be printed for a command, by its cause
@@ -85,7 +85,7 @@ pub record IsSilent (before after : Outside) (answer : Status) : Type 0 where
 pub record IsBrokenOff (command : Command) (before after : Outside) (answer : Status) : Type 0 where
   pub answered : answer ≡ status.NoMemory
   pub output : Output
-  pub gives : IsTold before.store command → Gives before.store.held command output
+  pub gives : TellsInput before.store command → Gives before.store.held command output
   pub sent : ℕ
   pub went_out : Appends before.sink.written after.sink.written (take sent output.report.text)
   pub done : ℕ

@@ -40,7 +40,7 @@ line_of (absent file) = codes "refused " ++ file ++ codes " absent" ++ 10 ∷ []
 line_of (read_fault file) = codes "refused " ++ file ++ codes " read" ++ 10 ∷ []
 line_of (write_fault file) = codes "refused " ++ file ++ codes " write" ++ 10 ∷ []
 
--- what is told of a cause
+-- the report on a cause
 abbrev pub report_of : Cause → Report
 report_of cause = record { text = line_of cause; status = status_of cause }
 

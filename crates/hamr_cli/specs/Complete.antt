@@ -8,12 +8,12 @@ use Rattle.hamr_cli.specs.Command.{Command}
 use Rattle.hamr_cli.specs.Files.{File, HasWritten}
 use Rattle.hamr_cli.specs.Outside.{Outside}
 use Rattle.hamr_cli.specs.Output.{Output, Gives, Accepts}
-use Rattle.hamr_cli.specs.Reads.{Reads, IsTold}
+use Rattle.hamr_cli.specs.Reads.{Reads, TellsInput}
 use Rattle.hamr_cli.specs.Status.{IsSuccess}
 
 -- each file that the command comes to read is held, and no fault is counted of what it reads, writes and prints
 pub record Serves (before after : Outside) (command : Command) : Type 0 where
-  pub told : IsTold before.store command
+  pub input : TellsInput before.store command
   pub held : (file : List ℕ) → Reads before.store.held command file → IsSome (before.store.held file)
   pub readable : (file : List ℕ) → Reads before.store.held command file → ReadFailed before.store after.store file → ⊥
   pub writable : (output : Output) (place : ℕ) (file : File) → Gives before.store.held command output →

@@ -78,18 +78,18 @@ legal_report = record { text = codes "legal" ++ 10 ∷ []; status = status.Done 
 abbrev pub illegal_report : ℕ → Rule → Report
 illegal_report number rule = record { text = codes "illegal " ++ decimal number ++ codes " " ++ word_of rule ++ 10 ∷ []; status = status.SomeFalse }
 
--- what is told of that
-abbrev pub told_of : List ℕ → List ℕ → Judgement → Report
-told_of model trace judgement.NotBuilt = report_of (refused model not_built)
-told_of model trace (judgement.BadLine number) = report_of (refused trace (bad_line number))
-told_of model trace judgement.Legal = legal_report
-told_of model trace (judgement.Illegal number rule) = illegal_report number rule
+-- the report on that
+abbrev pub report_of_judgement : List ℕ → List ℕ → Judgement → Report
+report_of_judgement model trace judgement.NotBuilt = report_of (refused model not_built)
+report_of_judgement model trace (judgement.BadLine number) = report_of (refused trace (bad_line number))
+report_of_judgement model trace judgement.Legal = legal_report
+report_of_judgement model trace (judgement.Illegal number rule) = illegal_report number rule
 
--- what is told of a model and the trace in the file
-pub record JudgeTells (held : List ℕ → Option (List ℕ)) (model trace : List ℕ) (tree : Package) (report : Report) : Type 0 where
+-- the report on a model and the trace in the file
+pub record JudgeReports (held : List ℕ → Option (List ℕ)) (model trace : List ℕ) (tree : Package) (report : Report) : Type 0 where
   pub found : Judgement
   pub judged : IsJudged held tree trace found
-  pub told : report ≡ told_of model trace found
+  pub reported : report ≡ report_of_judgement model trace found
 
 -- both files are accepted: the one is a thin model, and the other a trace of it
 pub record AreAccepted (held : List ℕ → Option (List ℕ)) (model trace : List ℕ) : Type 0 where

@@ -20,22 +20,22 @@ pub record HoldsPackage (held : List ℕ → Option (List ℕ)) (model : List �
   pub model_held : held model ≡ Some bytes
   pub is_text : IsTextOf model_rules bytes p
 
--- the file holds no model, and that is told
+-- the file holds no model, and that is reported
 pub record RefusesModel (held : List ℕ → Option (List ℕ)) (model : List ℕ) (report : Report) : Type 0 where
   pub bytes : List ℕ
   pub model_held : held model ≡ Some bytes
   pub refusal : Refusal
   pub rejected : IsRejected model_rules bytes refusal
-  pub told : report ≡ report_of (refused model refusal)
+  pub reported : report ≡ report_of (refused model refusal)
 
--- the file holds a model, of which this is told
-pub record TakesModel (held : List ℕ → Option (List ℕ)) (model : List ℕ) (Tells : Package → Report → Type 0) (report : Report) : Type 0 where
+-- the file holds a model, on which this is the report
+pub record TakesModel (held : List ℕ → Option (List ℕ)) (model : List ℕ) (Reports : Package → Report → Type 0) (report : Report) : Type 0 where
   pub bytes : List ℕ
   pub model_held : held model ≡ Some bytes
   pub tree : Package
   pub accepted : IsAccepted model_rules bytes tree
-  pub tells : Tells tree report
+  pub reports : Reports tree report
 
--- the output of a command that reads the file, by what it tells of a model
+-- the output of a command that reads the file, by its report on a model
 abbrev pub OnModel : (List ℕ → Option (List ℕ)) → List ℕ → (Package → Report → Type 0) → Report → Type 0
-OnModel held model Tells report = RefusesModel held model report ⊎ TakesModel held model Tells report
+OnModel held model Reports report = RefusesModel held model report ⊎ TakesModel held model Reports report

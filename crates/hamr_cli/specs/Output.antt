@@ -5,7 +5,7 @@ use Rattle.aadl_parse.specs.Printed.{IsWithinLimits}
 use Rattle.hamr_cli.specs.declared.report.Report.{Report}
 use Rattle.hamr_cli.specs.Command.{Command, judge, tidy}
 use Rattle.hamr_cli.specs.Files.{File}
-use Rattle.hamr_cli.specs.Judge.{JudgeTells, AreAccepted}
+use Rattle.hamr_cli.specs.Judge.{JudgeReports, AreAccepted}
 use Rattle.hamr_cli.specs.ModelFile.{OnModel, HoldsPackage}
 use Rattle.hamr_cli.specs.Tidy.{IsTidied}
 
@@ -15,12 +15,12 @@ pub record Output : Type 0 where
   pub files : List File
 
 -- this is printed, and nothing is written
-pub record PrintsAlone (Tells : Report → Type 0) (output : Output) : Type 0 where
-  pub tells : Tells output.report
+pub record PrintsAlone (Reports : Report → Type 0) (output : Output) : Type 0 where
+  pub reports : Reports output.report
   pub no_files : output.files ≡ []
 
 abbrev pub Gives : (List ℕ → Option (List ℕ)) → Command → Output → Type 0
-Gives held (judge model trace) output = PrintsAlone (OnModel held model (JudgeTells held model trace)) output
+Gives held (judge model trace) output = PrintsAlone (OnModel held model (JudgeReports held model trace)) output
 Gives held (tidy model) output = PrintsAlone (OnModel held model IsTidied) output
 
 -- the files that the command reads are accepted

@@ -41,6 +41,6 @@ pub record IsTurnOf (store : StoreMeaning) (command : Command) (file : List ℕ)
   pub named : Names command file
   pub reads : store.tells ≡ true → Reads store.held command file
 
--- what the output of the command rests on is told: the store tells, or the command reads nothing
-abbrev pub IsTold : StoreMeaning → Command → Type 0
-IsTold store command = (store.tells ≡ true) ⊎ ((file : List ℕ) → Names command file → ⊥)
+-- the store tells what the output of the command rests on, or the command reads nothing
+abbrev pub TellsInput : StoreMeaning → Command → Type 0
+TellsInput store command = (store.tells ≡ true) ⊎ ((file : List ℕ) → Names command file → ⊥)

@@ -20,5 +20,5 @@ pub record IsTidyText (report : Report) : Type 0 where
 
 -- its canonical text, which is left as it is where it is within the limits
 pub record IsTidied (p : Package) (report : Report) : Type 0 where
-  pub told : report ≡ tidied p
+  pub reported : report ≡ tidied p
   pub stays : IsWithinLimits p → IsTidyText report

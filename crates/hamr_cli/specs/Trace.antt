@@ -7,7 +7,7 @@ use Rattle.hamr_cli.specs.PortType.{IsPortValue}
 use Rattle.hw_text.specs.Name.{is_name}
 use Rattle.rts_rules.specs.declared.event.What.{What}
 use Rattle.rts_rules.specs.declared.event.What.TheVariants as act
-use Rattle.rts_rules.specs.Step.{IsDevice, IsPortOf}
+use Rattle.rts_rules.specs.Domain.{IsDevice, IsPortOf}
 use Rattle.hw_types.specs.declared.spot.Spot.{Spot}
 use Rattle.hamr_cli.specs.declared.trace.line.Line.{Line}
 use Rattle.hamr_cli.specs.TraceText.{domain_name, port_name, line_text, trace_text}

@@ -17,7 +17,7 @@ OnBadText (Ok x) P = Unit {0}
 OnBadText (Err line.BadLine) P = P
 OnBadText (Err line.NoMemory) P = Unit {0}
 
--- P holds of the number of the line that is told
+-- P holds of the number of the line of a refusal
 abbrev pub OnBadLine : {X : Type 0} → Result X TraceFault → (ℕ → Type 0) → Type 0
 OnBadLine (Ok x) P = Unit {0}
 OnBadLine (Err (trace.BadLine number)) P = P number
@@ -29,8 +29,8 @@ GivesTrace (Ok given) lines = given ≡ lines
 GivesTrace (Err (trace.BadLine number)) lines = ⊥
 GivesTrace (Err trace.NoMemory) lines = Unit {0}
 
--- this line is told, unless memory ran out
+-- this line is refused, unless memory ran out
 abbrev pub GivesBadLine : {X : Type 0} → Result X TraceFault → ℕ → Type 0
 GivesBadLine (Ok given) number = ⊥
-GivesBadLine (Err (trace.BadLine told)) number = told ≡ number
+GivesBadLine (Err (trace.BadLine line)) number = line ≡ number
 GivesBadLine (Err trace.NoMemory) number = Unit {0}

@@ -5,7 +5,7 @@ use Rattle.hw_text.specs.declared.place.Place.{Place}
 use Rattle.aadl_tree.specs.declared.association.Association.{Association}
 use Rattle.aadl_tree.specs.declared.association.Operator.TheVariants as operator
 use Rattle.aadl_tree.specs.declared.category.Category.TheVariants as category
-use Rattle.aadl_tree.specs.declared.class.BaseType.TheVariants as base
+use Rattle.hw_text.specs.declared.base_type.BaseType.TheVariants as base
 use Rattle.aadl_tree.specs.declared.class.Class.{Class}
 use Rattle.aadl_tree.specs.declared.class.Class.TheVariants as class
 use Rattle.aadl_tree.specs.declared.component.ComponentType.{ComponentType}

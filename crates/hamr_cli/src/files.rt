@@ -12,8 +12,8 @@ use std::alloc::Global;
 /// What ends a command before its own text.
 #[derive(Debug, Drop)]
 pub enum Stop {
-    /// This is told in its place.
-    Told(Report),
+    /// This report stands in its place.
+    Instead(Report),
     NoMemory,
 }
 
@@ -28,7 +28,7 @@ impl From<NoMemory> for Stop {
     }
 }
 
-/// The bytes of a file, or what is told where it can't be read.
+/// The bytes of a file, or the report where it can't be read.
 pub fn read_file<S: Store>(alloc: Global, store: &mut S, file: &str) -> Result<ByteList, Stop>
     ensures bytes { IfOk result (λ bytes. (S.means store.old).tells ≡ true → (S.means store.old).held file.now ≡ Some bytes) }
     ensures stopped { OnStopped result (λ report. IsUnread (S.means store.old) (S.means store.new) file.now report) }
@@ -36,8 +36,8 @@ pub fn read_file<S: Store>(alloc: Global, store: &mut S, file: &str) -> Result<B
 {
     match store.read(alloc, file) {
         ReadAnswer::Bytes(bytes) => Ok(bytes),
-        ReadAnswer::Absent => Err(Stop::Told(absent_file(alloc, file)?)),
-        ReadAnswer::Failed => Err(Stop::Told(unreadable_file(alloc, file)?)),
+        ReadAnswer::Absent => Err(Stop::Instead(absent_file(alloc, file)?)),
+        ReadAnswer::Failed => Err(Stop::Instead(unreadable_file(alloc, file)?)),
         ReadAnswer::NoMemory => Err(Stop::NoMemory),
     }
 }

@@ -23,11 +23,11 @@ pub enum Judgement {
 }
 
 impl Judgement {
-    ghost use Rattle.hamr_cli.specs.Judge.{told_of};
+    ghost use Rattle.hamr_cli.specs.Judge.{report_of_judgement};
 
-    /// What is told of it, the files being named so.
+    /// The report on it, the files being named so.
     pub fn report(self, alloc: Global, model: &str, trace: &str) -> Result<Report, NoMemory>
-        ensures { IfOk result (λ report. report ≡ told_of model.now trace.now self) }
+        ensures { IfOk result (λ report. report ≡ report_of_judgement model.now trace.now self) }
     {
         match self {
             Judgement::NotBuilt => refused_text(alloc, model, &Refusal::not_built(alloc)),

@@ -4,11 +4,11 @@ ghost use Rattle.std.specs.Prelude.{◌≡◌, true, IfOk};
 ghost use Rattle.hamr_cli.specs.Answer.{IsDue};
 ghost use Rattle.hamr_cli.specs.Cause.{report_of, words};
 ghost use Rattle.hamr_cli.specs.Command.{judge as asked_judge, tidy as asked_tidy};
-ghost use Rattle.hamr_cli.specs.Judge.{JudgeTells};
+ghost use Rattle.hamr_cli.specs.Judge.{JudgeReports};
 ghost use Rattle.hamr_cli.specs.Files.{HoldsTheSame};
 ghost use Rattle.hamr_cli.specs.Package.{IsThin};
 ghost use Rattle.hamr_cli.specs.Status.{IsOfContent};
-ghost use Rattle.hamr_cli.specs.Inner.{OnStopped, OnTold, IsUnread};
+ghost use Rattle.hamr_cli.specs.Inner.{OnStopped, OnReport, IsUnread};
 
 use crate::Report;
 use crate::cause::{refused_text, refused_words};
@@ -22,7 +22,7 @@ use std::alloc::Global;
 
 /// Of words that are no row of the table of commands.
 pub fn run_no_row(alloc: Global) -> Result<Report, Stop>
-    ensures { OnTold result (λ report. report ≡ report_of words) }
+    ensures { OnReport result (λ report. report ≡ report_of words) }
 {
     Ok(refused_words(alloc)?)
 }
@@ -34,7 +34,7 @@ pub fn run_judge<S: Store>(
     model: &str,
     trace: &str,
 ) -> Result<Report, Stop>
-    ensures due { OnTold result (λ report. IsDue (asked_judge model.now trace.now) (S.means store.old) (S.means store.new) report) }
+    ensures due { OnReport result (λ report. IsDue (asked_judge model.now trace.now) (S.means store.old) (S.means store.new) report) }
     ensures kept { HoldsTheSame (S.means store.old) (S.means store.new) }
 {
     match read_model(alloc, store, model)? {
@@ -43,7 +43,7 @@ pub fn run_judge<S: Store>(
     }
 }
 
-/// What is told of a model and the trace in a file.
+/// The report on a model and the trace in a file.
 fn judge_model<S: Store>(
     alloc: Global,
     store: &mut S,
@@ -52,7 +52,7 @@ fn judge_model<S: Store>(
     trace: &str,
 ) -> Result<Report, Stop>
     ensures content { IfOk result (λ report. IsOfContent report.status) }
-    ensures given { IfOk result (λ report. (S.means store.old).tells ≡ true → JudgeTells (S.means store.old).held model.now trace.now tree.now report) }
+    ensures given { IfOk result (λ report. (S.means store.old).tells ≡ true → JudgeReports (S.means store.old).held model.now trace.now tree.now report) }
     ensures stopped { OnStopped result (λ report. IsUnread (S.means store.old) (S.means store.new) trace.now report) }
     ensures thin { OnStopped result (λ report. IsThin tree.now) }
     ensures kept { HoldsTheSame (S.means store.old) (S.means store.new) }
@@ -63,7 +63,7 @@ fn judge_model<S: Store>(
 
 /// `tidy MODEL`.
 pub fn run_tidy<S: Store>(alloc: Global, store: &mut S, model: &str) -> Result<Report, Stop>
-    ensures due { OnTold result (λ report. IsDue (asked_tidy model.now) (S.means store.old) (S.means store.new) report) }
+    ensures due { OnReport result (λ report. IsDue (asked_tidy model.now) (S.means store.old) (S.means store.new) report) }
     ensures kept { HoldsTheSame (S.means store.old) (S.means store.new) }
 {
     match read_model(alloc, store, model)? {

@@ -1,20 +1,20 @@
-//! Printing what is told, once the whole text stands.
+//! Printing a report, once the whole text stands.
 
 ghost use Rattle.std.specs.Prelude.{◌≡◌};
 ghost use Rattle.hamr_cli.specs.Answer.{IsPrinted};
-ghost use Rattle.hamr_cli.specs.Inner.{IsToldAs};
+ghost use Rattle.hamr_cli.specs.Inner.{IsPrintedAs};
 
 use crate::files::Stop;
 use crate::{Report, Status};
 use hw_io::{Sink, WriteFault, write_all};
 
-/// Prints what a command told, or what is told in its place.
-pub fn print_told<O: Sink>(out: &mut O, told: Result<Report, Stop>) -> Status
-    ensures { IsToldAs told (O.means out.old) (O.means out.new) result }
+/// Prints the report of a command, or that in its place.
+pub fn print_result<O: Sink>(out: &mut O, given: Result<Report, Stop>) -> Status
+    ensures { IsPrintedAs given (O.means out.old) (O.means out.new) result }
 {
-    match told {
+    match given {
         Ok(report) => print(out, &report),
-        Err(Stop::Told(report)) => print(out, &report),
+        Err(Stop::Instead(report)) => print(out, &report),
         Err(Stop::NoMemory) => Status::NoMemory,
     }
 }

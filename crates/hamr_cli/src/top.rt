@@ -11,7 +11,7 @@ ghost use Rattle.hamr_cli.specs.Status.{IsRefusal, IsWordsOrNothing};
 use crate::Status;
 use crate::command::Command;
 use crate::outputs::{run_judge, run_no_row, run_tidy};
-use crate::printing::print_told;
+use crate::printing::print_result;
 use hw_io::{Sink, Store};
 use hw_text::WordList;
 use std::alloc::Global;
@@ -49,7 +49,7 @@ fn perform<S: Store, O: Sink>(alloc: Global, words: &WordList, store: &mut S, ou
 {
     match Command::read(words.rows()) {
         Some(command) => run(alloc, command, store, out),
-        None => print_told(out, run_no_row(alloc)),
+        None => print_result(out, run_no_row(alloc)),
     }
 }
 
@@ -61,12 +61,12 @@ fn run<S: Store, O: Sink>(alloc: Global, command: Command<'_>, store: &mut S, ou
 {
     match command {
         Command::Judge { model, trace } => {
-            let told = run_judge(alloc, store, model, trace);
-            print_told(out, told)
+            let given = run_judge(alloc, store, model, trace);
+            print_result(out, given)
         }
         Command::Tidy { model } => {
-            let told = run_tidy(alloc, store, model);
-            print_told(out, told)
+            let given = run_tidy(alloc, store, model);
+            print_result(out, given)
         }
     }
 }

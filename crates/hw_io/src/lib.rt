@@ -19,6 +19,7 @@ mod writing;
 pub use answers::{ReadAnswer, WriteAnswer};
 pub use dir_store::DirStore;
 pub use faults::{SinkFault, WriteFault};
+pub use mem_file::MemFile;
 pub use mem_sink::MemSink;
 pub use mem_store::MemStore;
 pub use out_sink::OutSink;

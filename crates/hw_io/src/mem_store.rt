@@ -81,6 +81,14 @@ impl MemStore {
         self.failing_write = Some(k);
     }
 
+    /// Each file that was added or written, the newest first: a later one hides an earlier one of its
+    /// name.
+    pub fn files(&self) -> &[MemFile]
+        ensures { result.now ≡ self.now.files }
+    {
+        &self.files
+    }
+
     /// The bytes of a name. It takes no memory.
     pub fn held(&self, name: &str) -> Option<&[u8]>
         ensures some { IfSome result (λ bytes. held_in self.now.files name.now ≡ Some bytes.now) }

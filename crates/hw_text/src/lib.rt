@@ -10,7 +10,6 @@ mod bytes;
 mod code;
 mod cursor;
 mod document;
-mod duplicate;
 mod fault;
 mod name;
 mod no_memory;
@@ -35,7 +34,6 @@ pub use bytes::{
 pub use code::Code;
 pub use cursor::Cursor;
 pub use document::{Detail, Document};
-pub use duplicate::Duplicate;
 pub use fault::Fault;
 pub use name::{Name, NameFault};
 pub use no_memory::NoMemory;

@@ -65,11 +65,14 @@ impl<T> Rows<T> {
 }
 
 impl<T: Drop> Rows<T> {
-    /// Appends a member.
+    /// Appends a member. A list of one has room for one: most lists of a tree stay as short.
     pub fn push(&mut self, member: T) -> Result<(), NoMemory>
         ensures ok { OnOk result (self.new ≡ self.old ++ member ∷ []) }
         ensures err { OnErr result (self.new ≡ self.old) }
     {
+        if self.items.is_empty() {
+            self.items.reserve_exact(1)?;
+        }
         self.items.push(member)?;
         Ok(())
     }

@@ -1,2 +1,4 @@
+pub mod Changes
+pub mod Openings
 pub mod Queues
-pub mod Receivers
+pub mod Steps

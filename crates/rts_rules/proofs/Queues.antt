@@ -1,5 +1,5 @@
--- What changing the queues at some places does, one place at a time.
-use Rattle.std.proofs.Common.{◌≡◌, ◌≢◌, ℕ, ℤ, suc, zero, Bool, true, false, ◌+◌, ◌≤◌, ◌<◌, ◌==◌, List, [], ◌∷◌, ◌++◌, length, map, filter, replicate, get_or, All, AllPairs, refl, ap, subst, length-append, sym, ◌∙◌, arith, if◌then◌else◌}
+-- What changing members of a list at some places does, one place at a time.
+use Rattle.std.proofs.Common.{◌≡◌, ◌≢◌, ℕ, ℤ, suc, zero, Bool, true, false, ◌+◌, ◌≤◌, ◌<◌, ◌==◌, List, [], ◌∷◌, ◌++◌, length, filter, replicate, get_or, All, AllPairs, refl, ap, subst, length-append, sym, ◌∙◌, arith}
 use Rattle.std.proofs.Math.ListN.{set}
 use Rattle.std.proofs.lemmas.Bool.Decides.{nat_tests}
 use Rattle.std.proofs.lemmas.List.{get_or-map, get_or_append_left, length-map}
@@ -7,13 +7,30 @@ use Rattle.std.proofs.Math.Seq.{get_or-append_seam}
 use Rattle.std.proofs.lemmas.List.Elements.{All-map, All-filter}
 use Rattle.std.proofs.lemmas.List.Kept.{AllPairs-filter}
 use Rattle.std.proofs.lemmas.List.Folds.{list_any_none, list_any-append}
-use Rattle.arch_model.specs.declared.parts.ArchParts.{ArchParts}
 use Rattle.arch_model.specs.declared.id.PortId.{PortId}
 use Rattle.arch_model.specs.declared.link.Link.{Link}
-use Rattle.arch_model.specs.declared.port.Port.{Port}
 use Rattle.arch_model.specs.LookUp.{receivers_of}
-use Rattle.rts_rules.specs.Services.{Queue, Services, appended, emptied, IsStateOf}
-use Rattle.rts_rules.specs.Left.{changed_from, is_among, released, received}
+use Rattle.rts_rules.specs.Queue.{Queue, appended}
+use Rattle.rts_rules.specs.Left.{changed_at, changed_from, is_among, released}
+
+-- a member that is set to what a change makes of it
+pub set-changed_at : {X : Type 0} (xs : List X) (place : ℕ) (change : X → X) (old new : X) → place < length xs →
+    old ≡ get_or xs place old → new ≡ change old → set xs place new ≡ changed_at place change xs
+set-changed_at [] place change old new inside here is = absurd (omega arith)
+set-changed_at (x ∷ xs) zero change old new inside here is = rw (is, here) refl
+set-changed_at (x ∷ xs) (suc place) change old new inside here is =
+    ap (λ rest. x ∷ rest) (set-changed_at xs place change old new (omega arith) here is)
+
+pub set-changed : {X : Type 0} (xs was : List X) (place : ℕ) (change : X → X) (old new : X) → xs ≡ was → place < length was →
+    old ≡ get_or xs place old → new ≡ change old → set xs place new ≡ changed_at place change was
+set-changed {X} xs was place change old new same inside here is =
+    ap (λ (ys : List X). set ys place new) same
+    ∙ set-changed_at was place change old new inside (here ∙ ap (λ (ys : List X). get_or ys place old) same) is
+
+pub length-changed_at : {X : Type 0} (place : ℕ) (change : X → X) (xs : List X) → length (changed_at place change xs) ≡ length xs
+length-changed_at place change [] = refl
+length-changed_at zero change (x ∷ xs) = refl
+length-changed_at (suc place) change (x ∷ xs) = ap suc (length-changed_at place change xs)
 
 -- tests that agree from this place on change the same queues
 pub changed_from-same : (place : ℕ) (p q : ℕ → Bool) (change : Queue → Queue) (queues : List Queue) →
@@ -56,17 +73,6 @@ get_or-changed_from place p change (queue ∷ queues) zero there d is inside old
 get_or-changed_from place p change (queue ∷ queues) (suc at) there d is inside old =
     get_or-changed_from (place + 1) p change queues at there d (omega arith) (omega arith) old
 
--- no room changes
-pub room-changed_from : (place : ℕ) (p : ℕ → Bool) (change : Queue → Queue) (queues : List Queue) →
-    ((queue : Queue) → (change queue).room ≡ queue.room) →
-    map (λ (queue : Queue). queue.room) (changed_from place p change queues) ≡ map (λ (queue : Queue). queue.room) queues
-room-changed_from place p change [] same = refl
-room-changed_from place p change (queue ∷ queues) same =
-    let later = room-changed_from (place + 1) p change queues same in
-    let here : (if p place then change queue else queue).room ≡ queue.room =
-    elim (p place) as (λ (b : Bool). (if b then change queue else queue).room ≡ queue.room) [ true ↦ same queue | false ↦ refl ] in
-    rw (here, later) refl
-
 length-changed_from : (place : ℕ) (p : ℕ → Bool) (change : Queue → Queue) (queues : List Queue) → length (changed_from place p change queues) ≡ length queues
 length-changed_from place p change [] = refl
 length-changed_from place p change (queue ∷ queues) = ap suc (length-changed_from (place + 1) p change queues)
@@ -74,24 +80,6 @@ length-changed_from place p change (queue ∷ queues) = ap suc (length-changed_f
 pub length-released : (ports : List PortId) (value : List ℤ) (queues : List Queue) → length (released ports value queues) ≡ length queues
 unfolding released
 length-released ports value queues = length-changed_from 0 (is_among ports) (λ queue. appended queue value) queues
-
--- at the start each queue has its port's room
-pub room-start : (ports : List Port) →
-    map (λ (queue : Queue). queue.room) (map (λ (port : Port). record { room = port.size; items = [] }) ports) ≡ map (λ (port : Port). port.size) ports
-room-start [] = refl
-room-start (port ∷ ports) = ap (λ rooms. port.size ∷ rooms) (room-start ports)
-
--- one queue is emptied
-pub set-received : (queues was : List Queue) (port : PortId) (item new : Queue) →
-    queues ≡ was → port.0 < length was → item ≡ get_or queues port.0 item → new ≡ emptied item →
-    set queues port.0 new ≡ received port was
-unfolding received
-set-received queues was port item new same inside here changed =
-    let test : ℕ → Bool = λ k. port.0 == k in
-    let one = set-changed_from 0 (λ _. false) test emptied was port.0 port.0 item
-    (omega arith) inside refl (grind (arith, nat_tests)) (λ k other. grind (arith, nat_tests)) in
-    let plain = rw (changed_from-none 0 emptied was) at one in
-    rw (same, changed, here, same) plain
 
 -- one queue more has the value
 pub set-released : (queues was : List Queue) (ports : List PortId) (port : PortId) (value : List ℤ) (item new : Queue) →
@@ -151,30 +139,6 @@ All-middle P before rest all port is each =
     let total : length all ≡ length before + suc (length rest) = ap length is ∙ length-append before (port ∷ rest) in
     let its : get_or all (length before) port ≡ port = rw is (get_or-append_seam before port rest port) in
     subst (λ (r : PortId). P r.0) its (each (length before) port (omega arith))
-
-rooms-released : (ports : List PortId) (value : List ℤ) (queues : List Queue) →
-    map (λ (queue : Queue). queue.room) (released ports value queues) ≡ map (λ (queue : Queue). queue.room) queues
-unfolding released
-rooms-released ports value queues = room-changed_from 0 (is_among ports) (λ queue. appended queue value) queues (λ queue. refl)
-
-rooms-received : (port : PortId) (queues : List Queue) →
-    map (λ (queue : Queue). queue.room) (received port queues) ≡ map (λ (queue : Queue). queue.room) queues
-unfolding received
-rooms-received port queues = room-changed_from 0 (λ place. port.0 == place) emptied queues (λ queue. refl)
-
--- a state keeps to its architecture
-pub kept-released : (arch : ArchParts) (state new : Services) (ports : List PortId) (value : List ℤ) →
-    new ≡ record state { queues = released ports value state.queues } → IsStateOf arch state → IsStateOf arch new
-kept-released arch state new ports value is kept = rw is (rooms-released ports value state.queues ∙ kept)
-
-pub kept-received : (arch : ArchParts) (state new : Services) (port : PortId) →
-    new ≡ record state { queues = received port state.queues } → IsStateOf arch state → IsStateOf arch new
-kept-received arch state new port is kept = rw is (rooms-received port state.queues ∙ kept)
-
--- there are as many queues as ports
-pub queues_count : (arch : ArchParts) (state : Services) → IsStateOf arch state → length state.queues ≡ length arch.ports
-queues_count arch state kept =
-    sym (length-map state.queues (λ (queue : Queue). queue.room)) ∙ ap length kept ∙ length-map arch.ports (λ (port : Port). port.size)
 
 -- a list of equal members, seen from its end
 pub replicate-last : (n : ℕ) (v y : List ℤ) (ys : List (List ℤ)) → replicate (suc n) v ≡ ys ++ y ∷ [] → (ys ≡ replicate n v) × (y ≡ v)

@@ -1,6 +1,10 @@
+pub mod Domain
 pub mod Fault
 pub mod Left
+pub mod Queue
 pub mod Rule
 pub mod Run
 pub mod Services
 pub mod Step
+pub mod Thread
+pub mod ThreadRules

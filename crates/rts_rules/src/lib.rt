@@ -3,10 +3,17 @@
 
 mod event;
 mod fault;
+mod item;
+mod order;
+mod phase;
+mod ports;
+mod queue;
 mod rule;
+mod slot;
+mod slots;
 mod state;
+mod thread;
 mod values;
-mod waiting;
 
 pub use event::{Event, What};
 pub use fault::StepFault;

@@ -1,5 +1,6 @@
-use Rattle.std.proofs.Common.{refl}
+use Rattle.std.proofs.Common.{refl, ap, ◌∙◌}
 use Rattle.gumbo_parse.specs.declared.expression.Expression.TheVariants as expression
+use Rattle.gumbo_parse.specs.Levels.{left, right}
 use Rattle.gumbo_parse.proofs.Allowing.{name_allowed}
 use Rattle.gumbo_parse.proofs.AllowedExpressions.{value_allowed, before_allowed, must_send_allowed, unary_allowed, binary_allowed, quantified_allowed, index_allowed}
 use Rattle.gumbo_parse.proofs.PrintedForms.{before_text, must_send_text, quantified_text, unary_text, binary_text_printed}
@@ -34,24 +35,24 @@ pub print_compound::print_unary-returns-clause-text : goal.print_compound::print
 print_compound::print_unary-returns-clause-text t c = λ at.
     unary_text c.close.result (expression.Unary at c.args.operator c.args.operand.now) c.args.wanted c.args.after_minus c.args.out.now c.open.new.out c.print_sign.new.out c.print.new.out c.close.new.out
     at c.args.operator c.args.operand.now c.args.operand.now c.level-level.result c.level-level.result c.is_minus.result
-    refl refl c.level-level.ensures.exact c.level-level.ensures.exact c.is_minus.ensures c.in_ok-open.ensures c.in_ok-print_sign.ensures c.in_ok-print.ensures.text c.close.ensures
+    refl refl c.level-level.ensures c.level-level.ensures c.is_minus.ensures (rw c.is_looser-grouped.ensures at c.in_ok-open.ensures) c.in_ok-print_sign.ensures c.in_ok-print.ensures.text (rw c.is_looser-grouped.ensures at c.close.ensures)
 
 pub print_compound::print_unary-returns-clause-allowed : goal.print_compound::print_unary-returns-clause-allowed
 print_compound::print_unary-returns-clause-allowed t c = λ at.
     unary_allowed c.close.result (expression.Unary at c.args.operator c.args.operand.now) c.args.wanted at c.args.operator c.args.operand.now c.args.operand.now c.level-level.result
-    refl refl c.level-level.ensures.exact c.in_ok-print.ensures.allowed
+    refl refl c.level-level.ensures c.in_ok-print.ensures.allowed
 
 pub expression::Expression::print-returns-in_ok-print-in-Binary-2-clause-text : goal.expression::Expression::print-returns-in_ok-print-in-Binary-2-clause-text
 expression::Expression::print-returns-in_ok-print-in-Binary-2-clause-text t c =
     binary_text_printed c.close.result c.args.self.now c.args.wanted c.args.after_minus c.args.out.now c.open.new.out c.print-in-Binary.new.out c.print_infix.new.out c.print-in-Binary-2.new.out c.close.new.out
-    c.in-Binary.field-0 c.in-Binary.operator c.in-Binary.left c.in-Binary.right c.get-in-Binary.result.now c.get-in-Binary-2.result.now c.level.result c.left.result c.right.result
-    c.in-Binary.is c.get-in-Binary.ensures c.get-in-Binary-2.ensures c.level.ensures.exact c.left.ensures.exact c.right.ensures.exact
-    c.in_ok-open-in-Binary.ensures c.in_ok-print-in-Binary.ensures.text c.in_ok-print_infix-in-Binary.ensures c.in_ok-print-in-Binary-2.ensures.text c.close.ensures
+    c.in-Binary.field-0 c.in-Binary.operator c.in-Binary.left c.in-Binary.right c.get-in-Binary.result.now c.get-in-Binary-2.result.now c.level-level.result c.left.result c.right.result
+    c.in-Binary.is c.get-in-Binary.ensures c.get-in-Binary-2.ensures c.level-level.ensures (c.left.ensures ∙ ap left c.level-level.ensures) (c.right.ensures ∙ ap right c.level-level.ensures)
+    (rw c.is_looser-grouped.ensures at c.in_ok-open-in-Binary.ensures) c.in_ok-print-in-Binary.ensures.text c.in_ok-print_infix-in-Binary.ensures c.in_ok-print-in-Binary-2.ensures.text (rw c.is_looser-grouped.ensures at c.close.ensures)
 
 pub expression::Expression::print-returns-in_ok-print-in-Binary-2-clause-allowed : goal.expression::Expression::print-returns-in_ok-print-in-Binary-2-clause-allowed
 expression::Expression::print-returns-in_ok-print-in-Binary-2-clause-allowed t c =
     binary_allowed c.close.result c.args.self.now c.args.wanted c.in-Binary.field-0 c.in-Binary.operator c.in-Binary.left c.in-Binary.right c.get-in-Binary.result.now c.get-in-Binary-2.result.now c.left.result c.right.result
-    c.in-Binary.is c.get-in-Binary.ensures c.get-in-Binary-2.ensures c.left.ensures.exact c.right.ensures.exact c.in_ok-print-in-Binary.ensures.allowed c.in_ok-print-in-Binary-2.ensures.allowed
+    c.in-Binary.is c.get-in-Binary.ensures c.get-in-Binary-2.ensures (c.left.ensures ∙ ap left c.level-level.ensures) (c.right.ensures ∙ ap right c.level-level.ensures) c.in_ok-print-in-Binary.ensures.allowed c.in_ok-print-in-Binary-2.ensures.allowed
 
 pub print_compound::print_quantified-returns-clause-text : goal.print_compound::print_quantified-returns-clause-text
 print_compound::print_quantified-returns-clause-text t c = λ at start wanted after.

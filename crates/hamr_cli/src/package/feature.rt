@@ -6,8 +6,8 @@ ghost use Rattle.hamr_cli.specs.Parts.{is_integer_32, is_thin_port, way_of, feat
 use crate::package::part::ThinPart;
 use crate::package::queue::queue_of;
 use crate::thin::feature::{Feature, Way};
-use aadl_tree::{Association, BaseType, Class, Direction, PortKind};
-use hw_text::{NoMemory, Rows};
+use aadl_tree::{Association, Class, Direction, PortKind};
+use hw_text::{BaseType, NoMemory, Rows};
 use std::alloc::Global;
 
 impl ThinPart<aadl_tree::Feature> for Feature {

@@ -2,7 +2,7 @@
 
 ghost use Rattle.std.specs.Prelude.{◌≡◌, ◌↔◌, ◌<◌, ◌^◌, ◌++◌, ◌∷◌, ℕ, List, true, IsTrue, IfSome, OnSome, IsSomeAnd, slice_get, length};
 ghost use Rattle.hw_text.specs.Name.{is_name};
-ghost use Rattle.rts_rules.specs.Step.{IsDevice};
+ghost use Rattle.rts_rules.specs.Domain.{IsDevice};
 ghost use Rattle.hamr_cli.specs.TracePort.{port_from};
 ghost use Rattle.hamr_cli.specs.Trace.{IsNamedDevice, IsNamedPort};
 ghost use Rattle.hamr_cli.specs.TraceText.{domain_name, port_name};

@@ -1,7 +1,7 @@
 use Rattle.c_parse.proofs.Steps.{fails, made, passed_by, stuck_by, both}
 use Rattle.c_parse.proofs.Leaves.{the_sign}
 use Rattle.c_parse.specs.declared.mark.Mark.TheVariants as mark
-use Rattle.c_parse.proofs.RightTexts.{a_right}
+use Rattle.c_parse.proofs.CallTexts.{a_right}
 use Rattle.c_parse.proofs.Steps.{remake, handed}
 use Rattle.c_parse.proofs.PlainTexts.{lvalue-assign}
 use Rattle.c_parse.proofs.assignments.assignment_behind.Goals as goal

@@ -1,169 +1,163 @@
-use Rattle.std.proofs.Common.{◌∙◌, sym, ap, subst, refl, arith, ℕ, ◌+◌, inl, inr}
-use Rattle.hw_text.specs.Reading.{Anything, Reads}
-use Rattle.hw_text.proofs.Reading.{failed, last, last-stuck}
-use Rattle.c_tree.specs.Starts.{value_of}
-use Rattle.c_parse.specs.declared.form.Form.TheVariants as form
-use Rattle.c_parse.specs.Values.{Tokens}
-use Rattle.c_parse.specs.Levels.{prefix_level}
+use Rattle.std.proofs.Common.{◌∙◌, sym, subst, arith, ℕ, ◌+◌}
+use Rattle.hw_text.proofs.Reading.{failed}
+use Rattle.c_parse.specs.declared.mark.Mark.TheVariants as mark
 use Rattle.c_parse.specs.Operators.{Ends}
-use Rattle.c_parse.specs.Forms.{form_ahead}
-use Rattle.c_parse.specs.ExpressionGrammar.{SpellsExpression, SpellsPrefix, SpellsLvalue}
-use Rattle.c_parse.specs.PartGrammar.{SpellsNumber, SpellsTruth}
-use Rattle.c_parse.proofs.Pieces.{handed-on, read-as}
-use Rattle.c_parse.proofs.FormTokens.{unpassed}
-use Rattle.c_parse.proofs.OpenedTexts.{opening-stuck, target-stuck, cast-stuck, cast-read, pointed-stuck, selectors-stuck, pointed-read, inner-stuck, close-stuck as shut-stuck, enclosed-read}
-use Rattle.c_parse.proofs.PartTexts.{NoSelector, ends-selector, parts-read, part-stuck, part-more, part-shorter}
-use Rattle.c_parse.proofs.LvalueTexts.{base-stuck, parts-stuck, lvalue-read, dot-stuck, member-stuck, member-read, open-stuck, index-stuck, close-stuck, index-read}
+use Rattle.c_parse.proofs.Steps.{fails, made, passed, passed_by, stuck_in, stuck_by, stuck_last, stuck_last_by, done, done_by, handed, as_value, both}
+use Rattle.c_parse.proofs.Lists.{member_stuck, member_read, member_shorter, list_read}
+use Rattle.c_parse.proofs.Leaves.{the_sign, the_name}
+use Rattle.c_parse.proofs.BaseTexts.{name_passed, none_passed}
+use Rattle.c_parse.proofs.PartTexts.{ends-selector, no_parts, parts_listed, parts_follow, parts_begun, lvalue_left, member_there, index_there}
 use Rattle.c_parse.proofs.Chains.{first-stuck, first-read}
 use Rattle.c_parse.proofs.LevelTexts.{tightest, passed-shorter, right-operand-stuck, operation-read, operation-shorter, level-read}
-use Rattle.c_parse.proofs.OperandTexts.{form-there, value-there, operator-stuck, operand-stuck, prefixed-read}
+use Rattle.c_parse.proofs.OperandTexts.{an_operand, a_whole, bracket-ends, close-ends, an_enclosed, named_there, value_there, opened_there, prefixed_there, number_there, truth_there, cast_there, pointed_there, enclosed_there}
 use Rattle.c_parse.proofs.expression_levels.+expressions.Goals as goal
-use Rattle.c_parse.proofs.expression_levels.+expressions.Goals.{opened-else-is_full-via-then-is_full+else-stands, opened-else-is_full-via-else-is_full}
 
 pub lvalue-returns-in_err-base : goal.lvalue-returns-in_err-base
-lvalue-returns-in_err-base t c = failed _ _ _ _ _ _ _ _ _ c.from_residual.ensures.1 c.in_err-base.ensures (base-stuck c.args.dialect _ _)
+lvalue-returns-in_err-base t c = fails _ _ c.from_residual.ensures.1 c.in_err-base.ensures (stuck_by (lvalue_left _ _) (parts_follow _) (no_parts _))
 
 pub lvalue-returns-in_err-parts : goal.lvalue-returns-in_err-parts
 lvalue-returns-in_err-parts t c =
-    failed _ _ _ _ _ _ _ _ _ c.from_residual-in_err-parts.ensures.1 c.in_err-parts.ensures (parts-stuck c.args.dialect _ _ _ c.in_ok-base.ensures _)
+    fails _ _ c.from_residual-in_err-parts.ensures.1 c.in_err-parts.ensures
+    (stuck_last_by (passed_by (lvalue_left _ _) (parts_follow _) c.in_ok-base.ensures) (λ m follows. follows))
 
 pub lvalue-returns : goal.lvalue-returns
-lvalue-returns t c = lvalue-read c.args.dialect _ _ _ c.in_ok-base.ensures _ _ c.in_ok-parts.ensures
+lvalue-returns t c = done_by (passed_by (lvalue_left _ _) (parts_follow _) c.in_ok-base.ensures) (λ m follows. follows) c.in_ok-parts.ensures
 
 pub selector-returns-in_err-sign : goal.selector-returns-in_err-sign
-selector-returns-in_err-sign t c =
-    failed _ _ _ _ _ _ _ _ _ c.from_residual.ensures.1 c.in_err-sign.ensures (dot-stuck c.args.dialect _ _ (sym c.stands.ensures ∙ c.if-stands.true))
+selector-returns-in_err-sign t c = fails _ _ c.from_residual.ensures.1 c.in_err-sign.ensures (stuck_in (member_there _ _ (sym c.stands.ensures ∙ c.if-stands.true)) the_name)
 
 pub selector-returns-in_err-member : goal.selector-returns-in_err-member
 selector-returns-in_err-member t c =
-    failed _ _ _ _ _ _ _ _ _ c.from_residual-in_err-member.ensures.1 c.in_err-member.ensures
-    (member-stuck c.args.dialect _ _ (sym c.stands.ensures ∙ c.if-stands.true) _ c.in_ok-sign.ensures _)
+    fails _ _ c.from_residual-in_err-member.ensures.1 c.in_err-member.ensures
+    (stuck_last (passed (member_there _ _ (sym c.stands.ensures ∙ c.if-stands.true)) c.in_ok-sign.ensures))
 
 pub selector-returns-then-stands : goal.selector-returns-then-stands
-selector-returns-then-stands t c =
-    member-read c.args.dialect _ _ (sym c.stands.ensures ∙ c.if-stands.true) _ c.in_ok-sign.ensures _ _ c.in_ok-member.ensures
+selector-returns-then-stands t c = done (passed (member_there _ _ (sym c.stands.ensures ∙ c.if-stands.true)) c.in_ok-sign.ensures) c.in_ok-member.ensures
 
 pub selector-returns-in_err-sign-2 : goal.selector-returns-in_err-sign-2
 selector-returns-in_err-sign-2 t c =
-    failed _ _ _ _ _ _ _ _ _ c.from_residual-in_err-sign-2.ensures.1 c.in_err-sign-2.ensures (open-stuck c.args.dialect _ _ (sym c.stands.ensures ∙ c.if-stands.false))
+    fails _ _ c.from_residual-in_err-sign-2.ensures.1 c.in_err-sign-2.ensures
+    (stuck_in (index_there _ _ (sym c.stands.ensures ∙ c.if-stands.false)) (both (a_whole _) (the_sign mark.CloseBracket)))
 
 pub selector-returns-in_err-index : goal.selector-returns-in_err-index
 selector-returns-in_err-index t c =
-    failed _ _ _ _ _ _ _ _ _ c.from_residual-in_err-index.ensures.1 c.in_err-index.ensures
-    (index-stuck c.args.dialect _ _ (sym c.stands.ensures ∙ c.if-stands.false) _ c.in_ok-sign-2.ensures _)
+    fails _ _ c.from_residual-in_err-index.ensures.1 c.in_err-index.ensures
+    (stuck_by (passed (index_there _ _ (sym c.stands.ensures ∙ c.if-stands.false)) c.in_ok-sign-2.ensures) (bracket-ends _) (the_sign mark.CloseBracket))
 
 pub selector-returns-in_err-sign-3 : goal.selector-returns-in_err-sign-3
 selector-returns-in_err-sign-3 t c =
-    failed _ _ _ _ _ _ _ _ _ c.from_residual-in_err-sign-3.ensures.1 c.in_err-sign-3.ensures
-    (close-stuck c.args.dialect _ _ (sym c.stands.ensures ∙ c.if-stands.false) _ c.in_ok-sign-2.ensures _ _ c.in_ok-index.ensures _)
+    fails _ _ c.from_residual-in_err-sign-3.ensures.1 c.in_err-sign-3.ensures
+    (stuck_last (passed_by (passed (index_there _ _ (sym c.stands.ensures ∙ c.if-stands.false)) c.in_ok-sign-2.ensures) (bracket-ends _) c.in_ok-index.ensures))
 
 pub selector-returns : goal.selector-returns
 selector-returns t c =
-    index-read c.args.dialect _ _ (sym c.stands.ensures ∙ c.if-stands.false) _ c.in_ok-sign-2.ensures _ _ c.in_ok-index.ensures _ _ c.in_ok-sign-3.ensures
+    done (passed_by (passed (index_there _ _ (sym c.stands.ensures ∙ c.if-stands.false)) c.in_ok-sign-2.ensures) (bracket-ends _) c.in_ok-index.ensures) c.in_ok-sign-3.ensures
+
+pub selectors-parts-init : goal.selectors-parts-init
+selectors-parts-init t c = (parts_begun _ _ _ c.new-parts.ensures, omega arith)
 
 pub selectors-returns-in_err-part : goal.selectors-returns-in_err-part
 selectors-returns-in_err-part t c =
-    failed _ _ _ _ _ _ _ _ _ c.from_residual.ensures.1 c.in_err-part.ensures
-    (part-stuck c.args.dialect _ _ c.parts.parts c.parts.invariant.0 (sym c.stands_part.ensures ∙ c.parts-test.true) _)
+    fails _ _ c.from_residual.ensures.1 c.in_err-part.ensures (member_stuck (parts_listed _) _ c.parts.invariant.0 (sym c.stands_part.ensures ∙ c.parts-test.true))
 
 pub selectors-parts-preserved : goal.selectors-parts-preserved
 selectors-parts-preserved t c =
-    (part-more c.args.dialect _ _ c.parts.parts c.parts.invariant.0 (sym c.stands_part.ensures ∙ c.parts-test.true) _ _ _ c.in_ok-push.ensures.ok c.in_ok-part.ensures, omega (arith, c.parts.invariant.1, part-shorter c.args.dialect _ _ _ c.in_ok-part.ensures))
+    (member_read (parts_listed _) _ c.parts.invariant.0 (sym c.stands_part.ensures ∙ c.parts-test.true) c.in_ok-push.ensures.ok c.in_ok-part.ensures, omega (arith, c.parts.invariant.1, member_shorter (parts_listed c.args.dialect) c.in_ok-part.ensures))
 
 pub selectors-returns : goal.selectors-returns
-selectors-returns t c = parts-read c.args.dialect _ _ c.parts.parts c.parts.invariant.0 (sym c.stands_part.ensures ∙ c.parts-test.false)
+selectors-returns t c = list_read (parts_listed _) _ c.parts.invariant.0 (sym c.stands_part.ensures ∙ c.parts-test.false)
 
 pub prefixed-returns-in_err-place : goal.prefixed-returns-in_err-place
-prefixed-returns-in_err-place t c = failed _ _ _ _ _ _ _ _ _ c.from_residual.ensures.1 c.in_err-place.ensures (operator-stuck c.args.dialect _ c.requires _)
+prefixed-returns-in_err-place t c = fails _ _ c.from_residual.ensures.1 c.in_err-place.ensures (stuck_in (made _ _ _ _) (an_operand _))
 
 pub prefixed-returns-in_err-inner : goal.prefixed-returns-in_err-inner
-prefixed-returns-in_err-inner t c =
-    failed _ _ _ _ _ _ _ _ _ c.from_residual-in_err-inner.ensures.1 c.in_err-inner.ensures (operand-stuck c.args.dialect _ c.requires _ _ c.in_ok-place.ensures _)
+prefixed-returns-in_err-inner t c = fails _ _ c.from_residual-in_err-inner.ensures.1 c.in_err-inner.ensures (stuck_last_by (passed (made _ _ _ _) c.in_ok-place.ensures) (λ m follows. follows))
 
 pub prefixed-returns : goal.prefixed-returns
-prefixed-returns t c = read-as (SpellsPrefix c.args.dialect) (Ends prefix_level) _ _ _ _ c.in_ok-unary.ensures.exact (prefixed-read c.args.dialect _ c.requires _ _ c.in_ok-place.ensures _ _ c.in_ok-inner.ensures)
+prefixed-returns t c = as_value c.in_ok-unary.ensures.exact (done_by (passed (made _ _ _ _) c.in_ok-place.ensures) (λ m follows. follows) c.in_ok-inner.ensures)
 
-pub operand-returns-in_err-lvalue-in_default : goal.operand-returns-in_err-lvalue-in_default
-operand-returns-in_err-lvalue-in_default t c =
-    failed _ _ _ _ _ _ _ _ _ c.from_residual.ensures.1 c.in_err-lvalue-in_default.ensures
-    (last-stuck (SpellsPrefix c.args.dialect) (Ends prefix_level) _ (SpellsLvalue c.args.dialect) NoSelector _ _ value_of
-    (value-there c.args.dialect _ c.form_ahead.result c.in_default.not-Parenthesis c.in_default.not-Operator c.in_default.not-Literal c.in_default.not-Truth (sym c.form_ahead.ensures)) (ends-selector prefix_level))
+pub value-returns-in_err-lvalue : goal.value-returns-in_err-lvalue
+value-returns-in_err-lvalue t c = fails _ _ c.from_residual.ensures.1 c.in_err-lvalue.ensures (stuck_last_by (made _ _ _ _) (λ m follows. follows))
 
-pub operand-returns-in_ok-lvalue-in_default : goal.operand-returns-in_ok-lvalue-in_default
-operand-returns-in_ok-lvalue-in_default t c =
-    read-as (SpellsPrefix c.args.dialect) (Ends prefix_level) _ _ _ _ c.of_lvalue.ensures.exact
-    (last (SpellsPrefix c.args.dialect) (Ends prefix_level) _ (SpellsLvalue c.args.dialect) NoSelector _ _ value_of
-    (value-there c.args.dialect _ c.form_ahead.result c.in_default.not-Parenthesis c.in_default.not-Operator c.in_default.not-Literal c.in_default.not-Truth (sym c.form_ahead.ensures)) (ends-selector prefix_level) _ c.in_ok-lvalue-in_default.ensures)
+pub value-returns : goal.value-returns
+value-returns t c = as_value c.of_lvalue.ensures.exact (done_by (made _ _ _ _) (λ m follows. follows) c.in_ok-lvalue.ensures)
 
-pub operand-returns-in-Literal : goal.operand-returns-in-Literal
-operand-returns-in-Literal t c =
-    let there = sym c.form_ahead.ensures ∙ c.in-Literal.is in
-    let same = unpassed form.Literal c.args.passed c.args.tokens.now refl there in
-    subst (λ (ts : Tokens). Reads (SpellsPrefix c.args.dialect) (Ends prefix_level) ts c.number.new.tokens c.number.result) (sym same)
-    (handed-on (SpellsPrefix c.args.dialect) SpellsNumber (Ends prefix_level) Anything _ _ _
-    (form-there c.args.dialect _ form.Literal (ap form_ahead (sym same) ∙ there)) (λ m follows. tt) _ c.number.ensures)
+pub operand_from-returns-then-is_some : goal.operand_from-returns-then-is_some
+operand_from-returns-then-is_some t c =
+    handed (named_there _ _ (name_passed c.args.passed _ (sym c.is_some.ensures ∙ c.if-is_some.true))) ends-selector _ _ c.value.ensures
 
-pub operand-returns-in-Truth : goal.operand-returns-in-Truth
-operand-returns-in-Truth t c =
-    let there = sym c.form_ahead.ensures ∙ c.in-Truth.is in
-    let same = unpassed form.Truth c.args.passed c.args.tokens.now refl there in
-    subst (λ (ts : Tokens). Reads (SpellsPrefix c.args.dialect) (Ends prefix_level) ts c.truth.new.tokens c.truth.result) (sym same)
-    (handed-on (SpellsPrefix c.args.dialect) SpellsTruth (Ends prefix_level) Anything _ _ _
-    (form-there c.args.dialect _ form.Truth (ap form_ahead (sym same) ∙ there)) (λ m follows. tt) _ c.truth.ensures)
+pub operand_from-returns : goal.operand_from-returns
+operand_from-returns t c = rw (none_passed c.args.passed c.args.tokens.now (sym c.is_some.ensures ∙ c.if-is_some.false)) c.operand.ensures
+
+pub operand-returns-then-stands : goal.operand-returns-then-stands
+operand-returns-then-stands t c = handed (opened_there _ _ (sym c.stands.ensures ∙ c.if-stands.true)) (λ m follows. follows) _ _ c.opened.ensures
+
+pub operand-returns-then-stands_unary : goal.operand-returns-then-stands_unary
+operand-returns-then-stands_unary t c = handed (prefixed_there _ _ (sym c.stands_unary.ensures ∙ c.if-stands_unary.true)) (λ m follows. follows) _ _ c.prefixed.ensures
+
+pub operand-returns-then-stands_literal : goal.operand-returns-then-stands_literal
+operand-returns-then-stands_literal t c = handed (number_there _ _ (sym c.stands_literal.ensures ∙ c.if-stands_literal.true)) (λ m follows. tt) _ _ c.number.ensures
+
+pub operand-returns-then-stands_truth : goal.operand-returns-then-stands_truth
+operand-returns-then-stands_truth t c = handed (truth_there _ _ (sym c.stands_truth.ensures ∙ c.if-stands_truth.true)) (λ m follows. tt) _ _ c.truth.ensures
+
+pub operand-returns : goal.operand-returns
+operand-returns t c =
+    handed (value_there _ _ (sym c.stands.ensures ∙ c.if-stands.false) (sym c.stands_unary.ensures ∙ c.if-stands_unary.false) (sym c.stands_literal.ensures ∙ c.if-stands_literal.false) (sym c.stands_truth.ensures ∙ c.if-stands_truth.false))
+    ends-selector _ _ c.value.ensures
 
 pub opened-returns-in_err-start : goal.opened-returns-in_err-start
-opened-returns-in_err-start t c = failed _ _ _ _ _ _ _ _ _ c.from_residual.ensures.1 c.in_err-start.ensures (opening-stuck c.args.dialect _ c.requires _)
+opened-returns-in_err-start t c = fails _ _ c.from_residual.ensures.1 c.in_err-start.ensures (stuck_in (made _ _ _ _) (an_enclosed _))
 
 pub opened-returns-in_err-class : goal.opened-returns-in_err-class
 opened-returns-in_err-class t c =
-    failed _ _ _ _ _ _ _ _ _ c.from_residual-in_err-class.ensures.1 c.in_err-class.ensures (target-stuck c.args.dialect _ c.requires _ _ c.in_ok-start.ensures (sym c.stands_integer.ensures ∙ c.if-stands_integer.true) _)
+    fails _ _ c.from_residual-in_err-class.ensures.1 c.in_err-class.ensures
+    (stuck_in (cast_there _ (passed (made _ _ _ _) c.in_ok-start.ensures) (sym c.stands_integer.ensures ∙ c.if-stands_integer.true)) (an_operand _))
 
 pub opened-returns-in_err-inner : goal.opened-returns-in_err-inner
 opened-returns-in_err-inner t c =
-    failed _ _ _ _ _ _ _ _ _ c.from_residual-in_err-inner.ensures.1 c.in_err-inner.ensures
-    (cast-stuck c.args.dialect _ c.requires _ _ c.in_ok-start.ensures (sym c.stands_integer.ensures ∙ c.if-stands_integer.true) _ _ c.in_ok-class.ensures _)
+    fails _ _ c.from_residual-in_err-inner.ensures.1 c.in_err-inner.ensures
+    (stuck_last_by (passed (cast_there _ (passed (made _ _ _ _) c.in_ok-start.ensures) (sym c.stands_integer.ensures ∙ c.if-stands_integer.true)) c.in_ok-class.ensures) (λ m follows. follows))
 
 pub opened-returns-then-stands_integer : goal.opened-returns-then-stands_integer
 opened-returns-then-stands_integer t c =
-    read-as (SpellsPrefix c.args.dialect) (Ends prefix_level) _ _ _ _ c.in_ok-cast.ensures.exact (cast-read c.args.dialect _ c.requires _ _ c.in_ok-start.ensures (sym c.stands_integer.ensures ∙ c.if-stands_integer.true) _ _ c.in_ok-class.ensures _ _ c.in_ok-inner.ensures)
+    as_value c.in_ok-cast.ensures.exact
+    (done_by (passed (cast_there _ (passed (made _ _ _ _) c.in_ok-start.ensures) (sym c.stands_integer.ensures ∙ c.if-stands_integer.true)) c.in_ok-class.ensures) (λ m follows. follows) c.in_ok-inner.ensures)
 
 pub opened-returns-in_err-pointed : goal.opened-returns-in_err-pointed
 opened-returns-in_err-pointed t c =
-    failed _ _ _ _ _ _ _ _ _ c.from_residual-in_err-pointed.ensures.1 c.in_err-pointed.ensures (pointed-stuck c.args.dialect _ c.requires _ _ c.in_ok-start.ensures (sym c.stands_integer.ensures ∙ c.if-stands_integer.false) (sym c.is_full.ensures ∙ c.if-is_full.true) (sym c.stands.ensures ∙ c.if-stands.true) _)
+    fails _ _ c.from_residual-in_err-pointed.ensures.1 c.in_err-pointed.ensures
+    (stuck_in (pointed_there _ (passed (made _ _ _ _) c.in_ok-start.ensures) (sym c.stands_in_full.ensures ∙ c.if-stands_in_full.true)) (no_parts _))
 
 pub opened-returns-in_err-parts : goal.opened-returns-in_err-parts
 opened-returns-in_err-parts t c =
-    failed _ _ _ _ _ _ _ _ _ c.from_residual-in_err-parts.ensures.1 c.in_err-parts.ensures
-    (selectors-stuck c.args.dialect _ c.requires _ _ c.in_ok-start.ensures (sym c.stands_integer.ensures ∙ c.if-stands_integer.false) (sym c.is_full.ensures ∙ c.if-is_full.true) (sym c.stands.ensures ∙ c.if-stands.true) _ _ c.in_ok-pointed.ensures _)
+    fails _ _ c.from_residual-in_err-parts.ensures.1 c.in_err-parts.ensures
+    (stuck_last_by (passed (pointed_there _ (passed (made _ _ _ _) c.in_ok-start.ensures) (sym c.stands_in_full.ensures ∙ c.if-stands_in_full.true)) c.in_ok-pointed.ensures) ends-selector)
 
-pub opened-returns-then-stands : goal.opened-returns-then-stands
-opened-returns-then-stands t c =
-    read-as (SpellsPrefix c.args.dialect) (Ends prefix_level) _ _ _ _ c.of_lvalue.ensures.exact
-    (pointed-read c.args.dialect _ c.requires _ _ c.in_ok-start.ensures (sym c.stands_integer.ensures ∙ c.if-stands_integer.false) (sym c.is_full.ensures ∙ c.if-is_full.true) (sym c.stands.ensures ∙ c.if-stands.true) _ _ c.in_ok-pointed.ensures _ _ c.in_ok-parts.ensures)
+pub opened-returns-then-stands_in_full : goal.opened-returns-then-stands_in_full
+opened-returns-then-stands_in_full t c =
+    as_value c.of_lvalue.ensures.exact
+    (done_by (passed (pointed_there _ (passed (made _ _ _ _) c.in_ok-start.ensures) (sym c.stands_in_full.ensures ∙ c.if-stands_in_full.true)) c.in_ok-pointed.ensures) ends-selector c.in_ok-parts.ensures)
 
 pub opened-returns-in_err-inner-2 : goal.opened-returns-in_err-inner-2
 opened-returns-in_err-inner-2 t c =
-    failed _ _ _ _ _ _ _ _ _ c.from_residual-in_err-inner-2.ensures.1 c.in_err-inner-2.ensures
-    (inner-stuck c.args.dialect _ c.requires _ _ c.in_ok-start.ensures (sym c.stands_integer.ensures ∙ c.if-stands_integer.false)
-    (elim c.else-is_full.branch [ opened-else-is_full-via-then-is_full+else-stands w ↦ inr (sym w.stands.ensures ∙ w.if-stands.false) | opened-else-is_full-via-else-is_full w ↦ inl (sym c.is_full.ensures ∙ w.if-is_full.false) ]) _)
+    fails _ _ c.from_residual-in_err-inner-2.ensures.1 c.in_err-inner-2.ensures
+    (stuck_by (enclosed_there _ (passed (made _ _ _ _) c.in_ok-start.ensures) (sym c.stands_integer.ensures ∙ c.if-stands_integer.false) (sym c.stands_in_full.ensures ∙ c.if-stands_in_full.false)) (close-ends _) (the_sign mark.CloseParenthesis))
 
 pub opened-returns-in_err-sign : goal.opened-returns-in_err-sign
 opened-returns-in_err-sign t c =
-    failed _ _ _ _ _ _ _ _ _ c.from_residual-in_err-sign.ensures.1 c.in_err-sign.ensures
-    (shut-stuck c.args.dialect _ c.requires _ _ c.in_ok-start.ensures (sym c.stands_integer.ensures ∙ c.if-stands_integer.false)
-    (elim c.else-is_full.branch [ opened-else-is_full-via-then-is_full+else-stands w ↦ inr (sym w.stands.ensures ∙ w.if-stands.false) | opened-else-is_full-via-else-is_full w ↦ inl (sym c.is_full.ensures ∙ w.if-is_full.false) ]) _ _ c.in_ok-inner-2.ensures _)
+    fails _ _ c.from_residual-in_err-sign.ensures.1 c.in_err-sign.ensures
+    (stuck_last (passed_by (enclosed_there _ (passed (made _ _ _ _) c.in_ok-start.ensures) (sym c.stands_integer.ensures ∙ c.if-stands_integer.false) (sym c.stands_in_full.ensures ∙ c.if-stands_in_full.false)) (close-ends _) c.in_ok-inner-2.ensures))
 
 pub opened-returns : goal.opened-returns
 opened-returns t c =
-    read-as (SpellsPrefix c.args.dialect) (Ends prefix_level) _ _ _ _ c.started_at.ensures.exact
-    (enclosed-read c.args.dialect _ c.requires _ _ c.in_ok-start.ensures (sym c.stands_integer.ensures ∙ c.if-stands_integer.false)
-    (elim c.else-is_full.branch [ opened-else-is_full-via-then-is_full+else-stands w ↦ inr (sym w.stands.ensures ∙ w.if-stands.false) | opened-else-is_full-via-else-is_full w ↦ inl (sym c.is_full.ensures ∙ w.if-is_full.false) ]) _ _ c.in_ok-inner-2.ensures _ _ c.in_ok-sign.ensures)
+    as_value c.started_at.ensures.exact
+    (done (passed_by (enclosed_there _ (passed (made _ _ _ _) c.in_ok-start.ensures) (sym c.stands_integer.ensures ∙ c.if-stands_integer.false) (sym c.stands_in_full.ensures ∙ c.if-stands_in_full.false)) (close-ends _) c.in_ok-inner-2.ensures) c.in_ok-sign.ensures)
 
 pub of_level-returns-then-level-eq-PREFIX_LEVEL : goal.of_level-returns-then-level-eq-PREFIX_LEVEL
 of_level-returns-then-level-eq-PREFIX_LEVEL t c =
     let is = c.if-level-eq-PREFIX_LEVEL.true in
-    handed-on (SpellsExpression c.args.dialect c.args.level) (SpellsPrefix c.args.dialect) (Ends c.args.level) (Ends prefix_level) _ _ _
-    (tightest c.args.dialect c.args.level is _) (λ m ends. subst (λ (n : ℕ). Ends n m) is ends) _ c.operand.ensures
+    handed (tightest c.args.dialect c.args.level is _) (λ m ends. subst (λ (n : ℕ). Ends n m) is ends) _ _ c.operand_from.ensures
 
 pub of_level-returns-in_err-left : goal.of_level-returns-in_err-left
 of_level-returns-in_err-left t c =

@@ -4,7 +4,7 @@ use Rattle.c_parse.specs.declared.mark.Mark.TheVariants as mark
 use Rattle.c_parse.proofs.ItemTexts.{body_stuck, no_return_left, return_left, right-semicolon-close}
 use Rattle.std.proofs.Common.{ap}
 use Rattle.std.specs.Prelude.{is_some}
-use Rattle.c_parse.proofs.RightTexts.{a_right}
+use Rattle.c_parse.proofs.CallTexts.{a_right}
 use Rattle.c_parse.proofs.functions.body.Goals as goal
 
 pub returns-in_err-all : goal.returns-in_err-all

@@ -2,7 +2,7 @@ use Rattle.c_parse.proofs.Steps.{fails, made, passed, passed_by, stuck_in, stuck
 use Rattle.c_parse.proofs.Leaves.{the_sign}
 use Rattle.c_parse.specs.declared.mark.Mark.TheVariants as mark
 use Rattle.c_parse.proofs.LocalTexts.{right-close}
-use Rattle.c_parse.proofs.RightTexts.{a_right}
+use Rattle.c_parse.proofs.CallTexts.{a_right}
 use Rattle.c_parse.proofs.local_values.condition.Goals as goal
 
 pub returns-in_err-sign : goal.returns-in_err-sign

@@ -2,7 +2,7 @@ use Rattle.std.proofs.Common.{◌∙◌, sym}
 use Rattle.hw_text.specs.Reading.{Anything}
 use Rattle.hw_text.proofs.Reading.{ahead-reached, ahead-stuck}
 use Rattle.c_parse.specs.Values.{keyword_of}
-use Rattle.c_parse.proofs.Tokens.{a_word}
+use Rattle.c_parse.proofs.Leaves.{a_word}
 use Rattle.c_parse.proofs.words.word.Goals as goal
 
 pub returns-in_default : goal.returns-in_default

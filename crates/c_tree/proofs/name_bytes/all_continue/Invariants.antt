@@ -1,6 +1,6 @@
 use Rattle.std.proofs.Common.{◌≡◌, drop}
 use Rattle.std.specs.List.{list_all}
-use Rattle.c_tree.specs.Words.{continues_name}
+use Rattle.c_tree.specs.Names.{continues_name}
 use Rattle.c_tree.proofs.name_bytes.all_continue.Given as goal
 
 abbrev pub invariant-loop-byte : goal.invariant-loop-byte

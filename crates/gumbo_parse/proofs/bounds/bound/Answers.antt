@@ -1,5 +1,5 @@
 use Rattle.gumbo_parse.proofs.BoundForms.{a_number, bound_opening, number-follows}
-use Rattle.gumbo_parse.proofs.Steps.{next_before, halt_before, final, final_halt}
+use Rattle.hw_reading.proofs.Steps.{next_before, halt_before, final, final_halt}
 use Rattle.gumbo_parse.proofs.bounds.bound.Goals as goal
 
 pub returns-in_err-minus : goal.returns-in_err-minus

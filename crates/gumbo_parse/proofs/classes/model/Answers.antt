@@ -1,7 +1,7 @@
-use Rattle.gumbo_parse.proofs.Choices.{no_members, nothing}
+use Rattle.hw_reading.proofs.Choices.{no_members, nothing}
 use Rattle.gumbo_parse.proofs.ClassForms.{model_opening, path-ends, dot-ends}
-use Rattle.gumbo_parse.proofs.PortForms.{both}
-use Rattle.gumbo_parse.proofs.Steps.{then, halt, next_before, halt_before, final_before, final_halt_before}
+use Rattle.hw_reading.proofs.Choices.{both}
+use Rattle.hw_reading.proofs.Steps.{then, halt, next_before, halt_before, final_before, final_halt_before}
 use Rattle.gumbo_parse.proofs.classes.model.Goals as goal
 
 pub returns-in_err-first : goal.returns-in_err-first

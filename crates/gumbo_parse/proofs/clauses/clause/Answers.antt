@@ -1,9 +1,10 @@
 use Rattle.gumbo_parse.specs.declared.mark.Mark.TheVariants as mark
-use Rattle.gumbo_parse.proofs.Choices.{nothing}
+use Rattle.hw_reading.proofs.Choices.{nothing}
 use Rattle.gumbo_parse.proofs.ClauseForms.{clause_opening, colon-follows, semicolon-ends}
-use Rattle.gumbo_parse.proofs.PortForms.{a_sign, a_name, both}
+use Rattle.hw_reading.proofs.Choices.{both}
+use Rattle.gumbo_parse.proofs.PortForms.{a_sign, a_name}
 use Rattle.gumbo_parse.proofs.Samples.{a_started}
-use Rattle.gumbo_parse.proofs.Steps.{then, halt, next_before, halt_before, final, final_halt}
+use Rattle.hw_reading.proofs.Steps.{then, halt, next_before, halt_before, final, final_halt}
 use Rattle.gumbo_parse.proofs.clauses.clause.Goals as goal
 
 pub returns-in_err-kind : goal.returns-in_err-kind
@@ -20,22 +21,22 @@ returns-in_err-description c =
     let two = then (then (clause_opening _) c.in_ok-kind.ensures) c.in_ok-name.ensures in
     halt_before _ _ _ _ _ two colon-follows (both (a_sign mark.Colon) (both a_started (a_sign mark.Semicolon))) c.from_residual-in_err-description.ensures.1 c.in_err-description.ensures
 
-pub returns-in_err-sign : goal.returns-in_err-sign
-returns-in_err-sign c =
+pub returns-in_err-symbol : goal.returns-in_err-symbol
+returns-in_err-symbol c =
     let three = next_before (then (then (clause_opening _) c.in_ok-kind.ensures) c.in_ok-name.ensures) colon-follows c.in_ok-description.ensures in
-    halt _ _ _ _ three (both a_started (a_sign mark.Semicolon)) c.from_residual-in_err-sign.ensures.1 c.in_err-sign.ensures
+    halt _ _ _ _ three (both a_started (a_sign mark.Semicolon)) c.from_residual-in_err-symbol.ensures.1 c.in_err-symbol.ensures
 
 pub returns-in_err-expression_place : goal.returns-in_err-expression_place
 returns-in_err-expression_place c =
     let three = next_before (then (then (clause_opening _) c.in_ok-kind.ensures) c.in_ok-name.ensures) colon-follows c.in_ok-description.ensures in
-    halt_before _ _ _ _ _ (then three c.in_ok-sign.ensures) semicolon-ends (a_sign mark.Semicolon) c.from_residual-in_err-expression_place.ensures.1 c.in_err-expression_place.ensures
+    halt_before _ _ _ _ _ (then three c.in_ok-symbol.ensures) semicolon-ends (a_sign mark.Semicolon) c.from_residual-in_err-expression_place.ensures.1 c.in_err-expression_place.ensures
 
-pub returns-in_err-sign-2 : goal.returns-in_err-sign-2
-returns-in_err-sign-2 c =
+pub returns-in_err-symbol-2 : goal.returns-in_err-symbol-2
+returns-in_err-symbol-2 c =
     let three = next_before (then (then (clause_opening _) c.in_ok-kind.ensures) c.in_ok-name.ensures) colon-follows c.in_ok-description.ensures in
-    final_halt _ _ _ (next_before (then three c.in_ok-sign.ensures) semicolon-ends c.in_ok-expression_place.ensures) c.from_residual-in_err-sign-2.ensures.1 c.in_err-sign-2.ensures
+    final_halt _ _ _ (next_before (then three c.in_ok-symbol.ensures) semicolon-ends c.in_ok-expression_place.ensures) c.from_residual-in_err-symbol-2.ensures.1 c.in_err-symbol-2.ensures
 
 pub returns : goal.returns
 returns c =
     let three = next_before (then (then (clause_opening _) c.in_ok-kind.ensures) c.in_ok-name.ensures) colon-follows c.in_ok-description.ensures in
-    final (next_before (then three c.in_ok-sign.ensures) semicolon-ends c.in_ok-expression_place.ensures) c.in_ok-sign-2.ensures
+    final (next_before (then three c.in_ok-symbol.ensures) semicolon-ends c.in_ok-expression_place.ensures) c.in_ok-symbol-2.ensures

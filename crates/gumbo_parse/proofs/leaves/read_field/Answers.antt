@@ -1,13 +1,13 @@
 use Rattle.gumbo_parse.proofs.LeafForms.{field_opening}
 use Rattle.gumbo_parse.proofs.PortForms.{a_name}
-use Rattle.gumbo_parse.proofs.Steps.{then, halt, final, final_halt}
+use Rattle.hw_reading.proofs.Steps.{then, halt, final, final_halt}
 use Rattle.gumbo_parse.proofs.leaves.read_field.Goals as goal
 
-pub returns-in_err-sign : goal.returns-in_err-sign
-returns-in_err-sign c = halt _ _ _ _ (field_opening _) a_name c.from_residual.ensures.1 c.in_err-sign.ensures
+pub returns-in_err-symbol : goal.returns-in_err-symbol
+returns-in_err-symbol c = halt _ _ _ _ (field_opening _) a_name c.from_residual.ensures.1 c.in_err-symbol.ensures
 
 pub returns-in_err-named : goal.returns-in_err-named
-returns-in_err-named c = final_halt _ _ _ (then (field_opening _) c.in_ok-sign.ensures) c.from_residual-in_err-named.ensures.1 c.in_err-named.ensures
+returns-in_err-named c = final_halt _ _ _ (then (field_opening _) c.in_ok-symbol.ensures) c.from_residual-in_err-named.ensures.1 c.in_err-named.ensures
 
 pub returns : goal.returns
-returns c = final (then (field_opening _) c.in_ok-sign.ensures) c.in_ok-named.ensures
+returns c = final (then (field_opening _) c.in_ok-symbol.ensures) c.in_ok-named.ensures

@@ -1,5 +1,5 @@
 use Rattle.gumbo_parse.proofs.LeafForms.{number_opening}
-use Rattle.gumbo_parse.proofs.Steps.{final, final_halt}
+use Rattle.hw_reading.proofs.Steps.{final, final_halt}
 use Rattle.gumbo_parse.proofs.leaves.read_number.Goals as goal
 
 pub returns-in_err-place : goal.returns-in_err-place

@@ -1,6 +1,6 @@
 use Rattle.gumbo_parse.proofs.LeafForms.{test_opening}
 use Rattle.gumbo_parse.proofs.PortForms.{a_port}
-use Rattle.gumbo_parse.proofs.Steps.{then, halt, final, final_halt}
+use Rattle.hw_reading.proofs.Steps.{then, halt, final, final_halt}
 use Rattle.gumbo_parse.proofs.leaves.read_test.Goals as goal
 
 pub returns-in_err-place : goal.returns-in_err-place

@@ -1,4 +1,4 @@
-use Rattle.gumbo_parse.proofs.Steps.{then, halt, final, final_halt}
+use Rattle.hw_reading.proofs.Steps.{then, halt, final, final_halt}
 use Rattle.gumbo_parse.proofs.PortForms.{a_port, in_opening}
 use Rattle.gumbo_parse.proofs.ports.before_entry.Goals as goal
 

@@ -3,10 +3,10 @@ use Rattle.gumbo_parse.specs.declared.word.Word.TheVariants as word
 use Rattle.gumbo_parse.specs.Annex.{initial, SpellsClause}
 use Rattle.gumbo_parse.specs.Grammar.{Keyword}
 use Rattle.gumbo_parse.specs.Values.{one_listed}
-use Rattle.gumbo_parse.proofs.Choices.{nothing}
-use Rattle.gumbo_parse.proofs.PortForms.{both}
+use Rattle.hw_reading.proofs.Choices.{nothing}
+use Rattle.hw_reading.proofs.Choices.{both}
 use Rattle.gumbo_parse.proofs.SectionForms.{contract_opening, no_section, state-follows, integration-follows, initialize-follows}
-use Rattle.gumbo_parse.proofs.Steps.{next_before, halt_before, final_before, final_halt_before}
+use Rattle.hw_reading.proofs.Steps.{next_before, halt_before, final_before, final_halt_before}
 use Rattle.gumbo_parse.proofs.sections.contract.Goals as goal
 
 pub returns-in_err-state : goal.returns-in_err-state

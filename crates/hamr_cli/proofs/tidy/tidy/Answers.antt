@@ -10,4 +10,4 @@ returns c =
     let p = c.args.tree.now in
     let report : Report = record { text = c.in_ok-print.field-0; status = status.Done } in
     let is : report ≡ tidied p = ap (λ (bs : List ℕ). record { text = bs; status = status.Done }) c.in_ok-print.ensures.text in
-    record { told = is; stays = λ limits. subst IsTidyText (sym is) (tidy-text p c.in_ok-print.ensures.allowed limits) }
+    record { reported = is; stays = λ limits. subst IsTidyText (sym is) (tidy-text p c.in_ok-print.ensures.allowed limits) }

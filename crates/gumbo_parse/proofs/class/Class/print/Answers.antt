@@ -3,7 +3,7 @@ use Rattle.gumbo_parse.proofs.AllowedContracts.{base_allowed, model_allowed}
 use Rattle.gumbo_parse.proofs.class.Class.print.Goals as goal
 
 pub returns-in-Base-clause-allowed : goal.returns-in-Base-clause-allowed
-returns-in-Base-clause-allowed c = base_allowed c.word.result c.args.self.now c.in-Base.field-0 c.in-Base.base c.in-Base.is
+returns-in-Base-clause-allowed c = base_allowed c.print_base.result c.args.self.now c.in-Base.field-0 c.in-Base.base c.in-Base.is
 
 pub returns-in_ok-print_path-in-Model-clause-allowed : goal.returns-in_ok-print_path-in-Model-clause-allowed
 returns-in_ok-print_path-in-Model-clause-allowed c =

@@ -1,0 +1,4 @@
+pub mod Marks
+pub mod Searched
+pub mod Falls
+pub mod Ways

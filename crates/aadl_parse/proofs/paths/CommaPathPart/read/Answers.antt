@@ -1,0 +1,14 @@
+use Rattle.std.proofs.Common.{refl, [], ◌∷◌, ◌++◌, codes, sym}
+use Rattle.aadl_parse.specs.Parts.{a_path}
+use Rattle.aadl_parse.specs.Starts.{}
+use Rattle.aadl_parse.proofs.Steps.{opening, and_then, halt, final, final_halt}
+use Rattle.aadl_parse.proofs.paths.CommaPathPart.read.Goals as goal
+
+pub returns-in_err-sign : goal.returns-in_err-sign
+returns-in_err-sign c = halt _ [] a_path refl opening _ _ _ c.from_residual.ensures.1 c.in_err-sign.ensures
+
+pub returns-in_err-path : goal.returns-in_err-path
+returns-in_err-path c = final_halt (λ m f. f) (and_then opening c.in_ok-sign.ensures) _ _ _ c.from_residual-in_err-path.ensures.1 c.in_err-path.ensures
+
+pub returns : goal.returns
+returns c = final (λ m f. f) (and_then opening c.in_ok-sign.ensures) c.in_ok-path.ensures

@@ -1,0 +1,3 @@
+pub mod Multiples
+pub mod Schedule
+pub mod Slots

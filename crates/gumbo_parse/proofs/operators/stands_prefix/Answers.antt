@@ -1,8 +1,0 @@
-use Rattle.std.proofs.Common.{◌∙◌, ap}
-use Rattle.std.specs.Prelude.{is_some}
-use Rattle.gumbo_parse.specs.Levels.{prefixes}
-use Rattle.gumbo_parse.proofs.Shapes.{listed-ahead}
-use Rattle.gumbo_parse.proofs.operators.stands_prefix.Goals as goal
-
-pub returns : goal.returns
-returns c = c.is_some.ensures ∙ ap is_some c.prefix_ahead.ensures ∙ listed-ahead (prefixes c.args.level) _

@@ -1,0 +1,4 @@
+pub mod Arriving
+pub mod Places
+pub mod Products
+pub mod Sends
