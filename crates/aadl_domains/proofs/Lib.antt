@@ -1,0 +1,4 @@
+pub mod Opened
+pub mod Rounds
+pub mod Spanned
+pub mod Ways
