@@ -1,3 +1,4 @@
+pub mod Members
 pub mod Opened
 pub mod Rounds
 pub mod Spanned

@@ -1,3 +1,4 @@
 pub mod Components
 pub mod Counting
 pub mod Roots
+pub mod Paths

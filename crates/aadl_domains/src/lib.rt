@@ -2,6 +2,7 @@
 #![tactic(auto)]
 
 mod counts;
+mod laws;
 mod listing;
 mod marks;
 mod rooting;
@@ -9,6 +10,7 @@ mod sought;
 mod spans;
 mod walk;
 
+pub use laws::{components_are_listed, listed_are_components};
 pub use rooting::roots;
 pub use sought::Sought;
 pub use walk::{Found, Path, domains, listed};
