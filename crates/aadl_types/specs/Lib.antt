@@ -1,0 +1,4 @@
+pub mod DataRows
+pub mod Extents
+pub mod Shaping
+pub mod Types
