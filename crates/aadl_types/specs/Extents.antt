@@ -1,17 +1,13 @@
 -- What is known of the types that data declarations stand for (this project's own).
-use Rattle.std.specs.Prelude.{◌≡◌, ◌⊎◌, ℕ, ◌^◌, ◌≤◌, List, length, Option, Some, None, Any}
+use Rattle.std.specs.Prelude.{List, Option, Some, None}
 use Rattle.hw_types.specs.declared.extent.Extent.{Extent}
 use Rattle.hw_types.specs.declared.ty.Ty.{Ty}
 use Rattle.hw_types.specs.Extent.{IsExtentOf}
 use Rattle.aadl_names.specs.declared.class_row.ClassRow.{ClassRow}
 use Rattle.aadl_names.specs.declared.class_row.ClassRow.TheVariants as row
 use Rattle.aadl_names.specs.Meanings.{at_row}
-use Rattle.aadl_types.specs.declared.shape.Part.{Part}
-use Rattle.aadl_types.specs.declared.shape.Part.TheVariants as part
-use Rattle.aadl_types.specs.declared.shape.Shape.{Shape}
-use Rattle.aadl_types.specs.declared.shape.Shape.TheVariants as shape
 use Rattle.aadl_types.specs.declared.shapes.Shapes.{Shapes}
-use Rattle.aadl_types.specs.Types.{shape_at, part_type, made_type, type_within, IsTypeOf}
+use Rattle.aadl_types.specs.Types.{IsTypeOf}
 
 -- what is known of each type and each implementation
 pub record Known : Type 0 where

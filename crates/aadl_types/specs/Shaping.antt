@@ -1,5 +1,5 @@
 -- How the data of a model are built (after SAE AS5506, the data model annex; this project's own: docs/formats/model.md).
-use Rattle.std.specs.Prelude.{ℕ, if◌then◌else◌, List, [], ◌∷◌, ◌++◌, map, Option, Some, None, option_map, option_and_then, slice_get}
+use Rattle.std.specs.Prelude.{if◌then◌else◌, List, [], ◌∷◌, ◌++◌, map, Option, Some, None, option_map, option_and_then, slice_get}
 use Rattle.aadl_tree.specs.declared.association.Association.{Association}
 use Rattle.aadl_tree.specs.declared.category.Category.TheVariants as category
 use Rattle.aadl_tree.specs.declared.class.Class.{Class}

@@ -4,6 +4,7 @@
 mod bases;
 mod deciding;
 mod declared_data;
+mod extents;
 mod parts;
 mod shape;
 mod shapes;
@@ -12,5 +13,6 @@ mod shaping;
 pub use bases::scalar_of;
 pub use deciding::Deciding;
 pub use declared_data::data_rows;
+pub use extents::Extents;
 pub use shape::{Part, Shape};
 pub use shapes::Shapes;
