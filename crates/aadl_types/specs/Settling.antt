@@ -1,10 +1,11 @@
 -- What is kept while extents are found, row by row. No clause of a public function cites this.
-use Rattle.std.specs.Prelude.{◌≡◌, ℕ, ◌+◌, ◌^◌, ◌≤◌, List, length, Option, Some, None, map, is_none, count_by, Any}
+use Rattle.std.specs.Prelude.{◌≡◌, ℕ, ◌+◌, ◌^◌, ◌≤◌, List, length, Option, Some, None, map, is_none, count_by, slice_set, Any}
 use Rattle.hw_types.specs.declared.extent.Extent.{Extent}
 use Rattle.hw_types.specs.declared.ty.Ty.{Ty}
 use Rattle.hw_types.specs.declared.ty.Ty.TheVariants.{Fields}
 use Rattle.hw_types.specs.Extent.{IsExtentOf}
 use Rattle.aadl_names.specs.declared.class_row.ClassRow.{ClassRow}
+use Rattle.aadl_names.specs.declared.class_row.ClassRow.TheVariants as row
 use Rattle.aadl_types.specs.declared.shape.Part.{Part}
 use Rattle.aadl_types.specs.declared.shape.Part.TheVariants as part
 use Rattle.aadl_types.specs.declared.shape.Shape.{Shape}
@@ -67,3 +68,13 @@ IsDone shapes known class = extent_at known class ≡ None → (s : Shape) → s
 
 abbrev pub unknown_count : Known → ℕ
 unknown_count known = count_by is_none known.types + count_by is_none known.implementations
+
+-- this is known too
+abbrev pub with_known : Known → ClassRow → Extent → Known
+with_known known row.Base extent = known
+with_known known (row.Type n) extent = record { types = slice_set known.types n (Some extent); implementations = known.implementations }
+with_known known (row.Implementation n) extent = record { types = known.types; implementations = slice_set known.implementations n (Some extent) }
+
+-- nothing more can be known
+abbrev pub AreDone : Shapes → Known → Type 0
+AreDone shapes known = (class : ClassRow) → IsDone shapes known class

@@ -6,6 +6,7 @@ mod deciding;
 mod declared_data;
 mod extents;
 mod parts;
+mod passes;
 mod shape;
 mod shapes;
 mod shaping;
