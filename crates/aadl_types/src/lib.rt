@@ -5,6 +5,7 @@ mod bases;
 mod deciding;
 mod declared_data;
 mod extents;
+mod order;
 mod parts;
 mod passes;
 mod shape;

@@ -7,6 +7,7 @@ ghost use Rattle.aadl_types.specs.Settling.{IsRight, IsDone, AreDone, unknown_co
 ghost use Rattle.aadl_types.specs.Types.{shape_at};
 
 use crate::extents::Extents;
+use crate::order::likely_order;
 use crate::shape::Shape;
 use crate::shapes::Shapes;
 use aadl_names::ClassRow;
@@ -44,11 +45,28 @@ impl Extents {
         ensures { IfOk result (AreAnswers shapes.now) }
     {
         let mut extents = Extents::nothing(alloc, shapes)?;
+        extents.settle_each(alloc, shapes, likely_order(alloc, shapes)?.as_slice())?;
         let mut open = true;
         while open {
             open = extents.pass(alloc, shapes)?;
         }
         Ok(extents)
+    }
+
+    /// Settles these rows in this order.
+    fn settle_each(
+        &mut self,
+        alloc: Global,
+        shapes: &Shapes,
+        rows: &[ClassRow],
+    ) -> Result<(), NoMemory>
+        requires { IsRight shapes.now self.old }
+        ensures { OnOk result (IsRight shapes.now self.new) }
+    {
+        for &class in rows {
+            self.settle(alloc, shapes, class)?;
+        }
+        Ok(())
     }
 
     /// One pass over all rows; whether anything was found.
