@@ -1,5 +1,5 @@
 -- What a pass over rows has found so far.
-use Rattle.std.proofs.Common.{◌≡◌, ℕ, ◌+◌, ◌<◌, ◌≤◌, Bool, true, false, ◌||◌, refl, sym, ap, subst, ◌∙◌, arith, below_more}
+use Rattle.std.proofs.Common.{◌≡◌, ℕ, ◌+◌, ◌<◌, Bool, true, false, ◌||◌, refl, sym, subst, ◌∙◌, arith, below_more}
 use Rattle.aadl_names.specs.declared.class_row.ClassRow.{ClassRow}
 use Rattle.aadl_types.specs.declared.shapes.Shapes.{Shapes}
 use Rattle.aadl_types.specs.Extents.{Known}
