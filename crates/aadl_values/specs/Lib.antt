@@ -1,0 +1,5 @@
+pub mod Columns
+pub mod Distinct
+pub mod Layers
+pub mod Spellings
+pub mod Times
