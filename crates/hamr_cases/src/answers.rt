@@ -3,7 +3,7 @@
 use crate::question::Question;
 use crate::trouble::Trouble;
 use crate::world::World;
-use crate::{commands, layouts, lists, names, services, sinks, stores, texts};
+use crate::{commands, layouts, lists, names, schedules, services, sinks, stores, texts};
 use hw_text::TextBuf;
 use std::alloc::Global;
 
@@ -22,6 +22,7 @@ pub fn answer(
         || names::answer(alloc, question, out)?
         || layouts::answer(alloc, question, world, out)?
         || services::answer(alloc, question, world, out)?
+        || schedules::answer(alloc, question, world, out)?
         || texts::answer(alloc, question, world, out)?;
     if is_answered {
         Ok(())

@@ -69,12 +69,14 @@ fn at_port(
     }
 }
 
-/// One item for each number.
-fn items(alloc: Global, numbers: &[ByteList]) -> Result<ValueList, Trouble> {
+/// One item for each word: a number, or `*` where it has none.
+fn items(alloc: Global, words: &[ByteList]) -> Result<ValueList, Trouble> {
     let mut items = Rows::new(alloc);
-    for digits in numbers {
+    for word in words {
         let mut item = Value::new(alloc);
-        item.push(integer(digits)?)?;
+        if word.rows() != b"*".as_slice() {
+            item.push(integer(word)?)?;
+        }
         items.push(item)?;
     }
     Ok(items)

@@ -16,6 +16,8 @@ mod lists;
 mod names;
 mod question;
 mod refusals;
+mod rows;
+mod schedules;
 mod scripted;
 mod services;
 mod sinks;
