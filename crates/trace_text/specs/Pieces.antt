@@ -1,6 +1,6 @@
 -- How values are written (this project's own; docs/formats/trace.md): a struct as `{V, V}`, an array as `(V, V)`, a scalar as a number, a
 -- truth value or an enumerator, and what has no value as `*`.
-use Rattle.std.specs.Prelude.{◌≡◌, ℕ, ℤ, pos, negsuc, zero, suc, List, [], ◌∷◌, ◌++◌, map, length, codes, Option, Some, None, slice_get, IsSomeAnd}
+use Rattle.std.specs.Prelude.{◌≡◌, ℕ, ℤ, pos, negsuc, zero, suc, List, [], ◌∷◌, ◌++◌, map, length, codes, Some, slice_get, IsSomeAnd}
 use Rattle.std.specs.Fmt.{signed_decimal}
 use Rattle.std.specs.List.{flat_map}
 use Rattle.std.specs.Option.{option_map_or}

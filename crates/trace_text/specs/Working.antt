@@ -1,5 +1,5 @@
 -- The pieces of a type, as they are listed one after another. No clause of a public call cites this.
-use Rattle.std.specs.Prelude.{ℕ, ◌+◌, List, [], ◌∷◌, ◌++◌, map, drop, slice_get, Option, Some, None}
+use Rattle.std.specs.Prelude.{ℕ, List, [], ◌∷◌, ◌++◌, map, drop, slice_get, Option, Some, None}
 use Rattle.arch_model.specs.declared.form.Form.{Form}
 use Rattle.arch_model.specs.declared.form.Form.TheVariants as form
 use Rattle.arch_model.specs.declared.type_row.TypeRow.{TypeRow}

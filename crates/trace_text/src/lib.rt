@@ -2,15 +2,15 @@
 #![tactic(auto)]
 
 mod line;
+mod line_printer;
 mod names;
 mod piece;
 mod pieces;
-mod line_printer;
 mod value_printer;
 mod work;
 
 pub use line::{Line, Trace};
+pub use line_printer::print_line;
 pub use piece::{Piece, PieceList};
 pub use pieces::pieces_of;
-pub use line_printer::print_line;
 pub use value_printer::print_value;

@@ -1,15 +1,15 @@
 //! How lines are printed.
 
-ghost use Rattle.std.specs.Prelude.{◌≡◌, ◌<◌, ◌++◌, ◌∷◌, [], List, OnOk, length};
+ghost use Rattle.std.specs.Prelude.{◌≡◌, ◌<◌, ◌++◌, ◌∷◌, [], List, OnOk, length, map};
 ghost use Rattle.trace_text.specs.declared.piece.Piece.{Piece as AnyPiece};
 ghost use Rattle.trace_text.specs.Lines.{line_text, object_text, list_text, value_text, clause_name, port_name, spot_text, truth_text};
-ghost use Rattle.trace_text.specs.Pieces.{ArePiecesOf};
+ghost use Rattle.trace_text.specs.Pieces.{ArePiecesOf, comma, filled, separated};
 
-use crate::Line;
 use crate::names::{clause_name, domain_name, port_name};
 use crate::pieces::port_pieces;
 use crate::value_printer::{print_value, print_values};
-use arch_model::{Arch, PdId, PortId};
+use crate::{Line, Piece};
+use arch_model::{Arch, PdId, PortId, TypeRow};
 use gumbo_check::ContractList;
 use hw_text::{NoMemory, TextBuf};
 use hw_types::{Spot, Value, ValueList};
@@ -87,12 +87,7 @@ fn print_port(out: &mut TextBuf, arch: &Arch, port: PortId) -> Result<(), NoMemo
 }
 
 /// Appends a value of the port's type.
-fn print_item(
-    out: &mut TextBuf,
-    arch: &Arch,
-    port: PortId,
-    value: &Value,
-) -> Result<(), NoMemory>
+fn print_item(out: &mut TextBuf, arch: &Arch, port: PortId, value: &Value) -> Result<(), NoMemory>
     ensures { OnOk result ((all : List (List AnyPiece)) → ArePiecesOf arch.now.types all →
         out.new ≡ out.old ++ value_text arch.now all port value.now) }
 {
@@ -111,8 +106,20 @@ fn print_list(
         out.new ≡ out.old ++ list_text arch.now all port values.now) }
 {
     let pieces = port_pieces(values.allocator(), arch, port)?;
+    print_bracketed(out, arch.types(), pieces.rows(), values.rows())
+}
+
+/// Appends values in square brackets, by the pieces of their type.
+fn print_bracketed(
+    out: &mut TextBuf,
+    types: &[TypeRow],
+    pieces: &[Piece],
+    values: &[Value],
+) -> Result<(), NoMemory>
+    ensures { OnOk result (out.new ≡ out.old ++ 91 ∷ (separated comma (map (filled types.now pieces.now) values.now) ++ 93 ∷ [])) }
+{
     out.word(b"[")?;
-    print_values(out, arch.types(), pieces.rows(), values.rows())?;
+    print_values(out, types, pieces, values)?;
     out.word(b"]")
 }
 

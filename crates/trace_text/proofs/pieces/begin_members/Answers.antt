@@ -1,5 +1,5 @@
 use Rattle.trace_text.proofs.Works.{on-ok, begin-some, begin-none}
-use Rattle.std.proofs.Common.{◌∙◌, sym}
+use Rattle.std.proofs.Common.{sym}
 use Rattle.trace_text.proofs.pieces.begin_members.Goals as goal
 
 pub returns-in-Some : goal.returns-in-Some

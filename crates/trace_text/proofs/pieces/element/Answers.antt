@@ -1,4 +1,4 @@
-use Rattle.std.proofs.Common.{◌≡◌, ◌∙◌, List, ℕ, sym, ap, arith}
+use Rattle.std.proofs.Common.{◌∙◌, List, ℕ, sym, ap, arith}
 use Rattle.std.specs.List.{slice_get}
 use Rattle.arch_model.specs.declared.form.Form.TheVariants as any_form
 use Rattle.trace_text.specs.Pieces.{members}

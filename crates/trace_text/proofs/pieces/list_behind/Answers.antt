@@ -1,4 +1,4 @@
-use Rattle.std.proofs.Common.{◌∙◌, sym}
+use Rattle.std.proofs.Common.{sym}
 use Rattle.trace_text.proofs.Works.{on-ok, behind-some, behind-close}
 use Rattle.trace_text.proofs.pieces.list_behind.Goals as goal
 

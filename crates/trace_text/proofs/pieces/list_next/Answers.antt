@@ -1,5 +1,4 @@
-use Rattle.std.proofs.Common.{◌∙◌, ◌++◌, sym, ap, length}
-use Rattle.trace_text.specs.Working.{all_left, pieces_left}
+use Rattle.std.proofs.Common.{length}
 use Rattle.trace_text.proofs.Works.{on-ok, whole-nothing, behind-nothing, not-within}
 use Rattle.trace_text.proofs.pieces.list_next.Goals as goal
 
