@@ -24,5 +24,5 @@ pub use devices::{Devices, read, send, write};
 pub use escapes::{tell_hex, two_digits};
 pub use files::{Unshown, show_file};
 pub use question::Question;
-pub use telling::{tell_line, tell_number, tell_text};
+pub use telling::{tell_integer, tell_line, tell_number, tell_place, tell_text};
 pub use trouble::Trouble;

@@ -2,7 +2,7 @@
 
 use crate::bytes::cut;
 use crate::escapes::escape;
-use hw_text::{NoMemory, TextBuf};
+use hw_text::{NoMemory, Place, TextBuf};
 
 /// Appends a line.
 pub fn tell_line(out: &mut TextBuf, line: &[u8]) -> Result<(), NoMemory> {
@@ -16,6 +16,21 @@ pub fn tell_number(out: &mut TextBuf, word: &[u8], number: i128) -> Result<(), N
     out.word(b" ")?;
     out.number(number)?;
     out.newline()
+}
+
+/// Appends a number of texts in any of the languages.
+pub fn tell_integer(out: &mut TextBuf, value: u128) -> Result<(), NoMemory> {
+    match i128::try_from(value) {
+        Ok(value) => out.number(value),
+        Err(_) => out.word(b"2^127 or more"),
+    }
+}
+
+/// Appends a place.
+pub fn tell_place(out: &mut TextBuf, place: Place) -> Result<(), NoMemory> {
+    out.number(i128::from(place.line))?;
+    out.word(b":")?;
+    out.number(i128::from(place.column))
 }
 
 /// Appends what a call printed, or that it printed nothing.

@@ -1,32 +1,60 @@
-//! Whole commands, over the store and the sink in memory.
+//! Whole commands, over the store and the sink of a case.
 
-use crate::question::Question;
-use crate::telling::{tell_number, tell_text};
-use crate::trouble::Trouble;
-use crate::world::World;
+use case_files::{Answerer, Context, Devices, Question, Trouble, tell_number, tell_text};
 use hamr_cli::hamr;
 use hw_io::MemFile;
 use hw_text::{NoMemory, TextBuf};
 use std::alloc::Global;
 
-/// Whether the question is `run WORDS`, which is answered by the status of the command, the names
-/// that the store holds then, and what went out. The sink is a new one afterwards.
-pub fn answer(
+/// Who answers, and the store and the sink of a case.
+#[derive(Drop)]
+pub struct Commands {
+    devices: Devices,
+}
+
+impl Commands {
+    pub fn new(alloc: Global) -> Result<Self, NoMemory> {
+        Ok(Commands {
+            devices: Devices::new(alloc)?,
+        })
+    }
+}
+
+impl Answerer for Commands {
+    fn begin(&mut self, alloc: Global) -> Result<(), NoMemory> {
+        self.devices = Devices::new(alloc)?;
+        Ok(())
+    }
+
+    fn answer(
+        &mut self,
+        alloc: Global,
+        _context: &Context,
+        question: &Question,
+        out: &mut TextBuf,
+    ) -> Result<bool, Trouble> {
+        if question.word.rows() != b"run".as_slice() {
+            return self.devices.answer(alloc, question, out);
+        }
+        run(alloc, question, &mut self.devices, out)?;
+        Ok(true)
+    }
+}
+
+/// `run WORDS`: the status of the command, the names that the store holds then, and what went out.
+/// The sink is a new one afterwards.
+fn run(
     alloc: Global,
     question: &Question,
-    world: &mut World<'_>,
+    devices: &mut Devices,
     out: &mut TextBuf,
-) -> Result<bool, Trouble> {
-    if question.word.rows() != b"run".as_slice() {
-        return Ok(false);
-    }
+) -> Result<(), Trouble> {
     let words = question.words(alloc)?;
-    let status = hamr(alloc, &words, &mut world.store, &mut world.sink);
+    let status = hamr(alloc, &words, &mut devices.store, &mut devices.sink);
     tell_number(out, b"status", i128::from(status.number()))?;
-    tell_names(out, world.store.files())?;
-    tell_text(out, world.sink.bytes())?;
-    world.clear(alloc)?;
-    Ok(true)
+    tell_names(out, devices.store.files())?;
+    tell_text(out, devices.sink.bytes())?;
+    Ok(devices.clear(alloc)?)
 }
 
 /// Appends a line of the names of these files, the oldest first, each where its newest file is;

@@ -1,0 +1,35 @@
+//! Shows what the lowest libraries answer: goes through the case files that its words name, and
+//! prints each line of them, with the answer below each question.
+#![tactic(auto)]
+
+mod bases;
+mod chains;
+mod files;
+mod layouts;
+mod lists;
+mod names;
+mod refusals;
+mod scripted;
+mod type_text;
+
+use crate::bases::Bases;
+use case_files::show_file;
+use hw_io::{DirStore, OutSink};
+use std::process::ExitCode;
+use std::{env, io};
+
+/// Goes through the files in the order of the words.
+fn main(rt: HostRuntime) -> io::Result<ExitCode> {
+    let alloc = rt.alloc();
+    let mut out = OutSink::new(io::writer(&rt));
+    let Ok(mut bases) = Bases::new(alloc, DirStore::new(&rt)) else {
+        return Ok(ExitCode::FAILURE);
+    };
+    for name in env::args(&rt)?.skip(1) {
+        let mut disk = DirStore::new(&rt);
+        if show_file(alloc, &mut disk, name.as_str(), &mut bases, &mut out).is_err() {
+            return Ok(ExitCode::FAILURE);
+        }
+    }
+    Ok(ExitCode::SUCCESS)
+}
