@@ -14,7 +14,10 @@ mod shaping;
 
 pub use bases::scalar_of;
 pub use deciding::Deciding;
-pub use declared_data::data_rows;
+pub use declared_data::{data_rows, is_data};
 pub use extents::Extents;
+pub use parts::{base_part, part_of};
+pub use passes::shape_at;
 pub use shape::{Part, Shape};
 pub use shapes::Shapes;
+pub use shaping::{deciding_with, declared_type, implementation_shape, type_shape};

@@ -11,7 +11,7 @@ use hw_text::{NoMemory, Rows};
 use std::alloc::Global;
 
 /// The data that a classifier means.
-fn part_of(
+pub fn part_of(
     alloc: Global,
     tables: &Tables<'_>,
     references: &References<'_>,

@@ -141,7 +141,7 @@ fn either(one: bool, other: bool) -> bool
 }
 
 /// The shape of a row.
-fn shape_at(shapes: &Shapes, class: ClassRow) -> Option<&Shape>
+pub fn shape_at(shapes: &Shapes, class: ClassRow) -> Option<&Shape>
     ensures { option_copied result ≡ shape_at shapes.now class }
 {
     let (rows, number) = match class {

@@ -51,7 +51,7 @@ pub fn implementation_shape(
     )
 }
 
-fn declared_type<'a>(
+pub fn declared_type<'a>(
     tables: &'a Tables<'_>,
     references: &References<'_>,
     declared: &Implementation,
@@ -66,7 +66,7 @@ fn declared_type<'a>(
 }
 
 /// What decides for an implementation: what stands at itself, else what stands at its type.
-fn deciding_with<'a>(
+pub fn deciding_with<'a>(
     declared: &'a Implementation,
     declared_type: Option<&'a ComponentType>,
 ) -> Deciding<'a>

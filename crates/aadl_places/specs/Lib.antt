@@ -1,0 +1,4 @@
+pub mod BadValues
+pub mod LongQueues
+pub mod PropertyPlaces
+pub mod Sites

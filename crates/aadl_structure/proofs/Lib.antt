@@ -1,0 +1,4 @@
+pub mod Earliest
+pub mod FanInsTold
+pub mod MembersTold
+pub mod ValueMentions

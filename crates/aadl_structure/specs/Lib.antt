@@ -1,0 +1,9 @@
+pub mod Duplicates
+pub mod Ends
+pub mod FanIns
+pub mod Kinds
+pub mod Mentions
+pub mod Parents
+pub mod RootOffences
+pub mod Unknown
+pub mod Widths

@@ -1,0 +1,5 @@
+pub mod Frames
+pub mod Limits
+pub mod Located
+pub mod Naming
+pub mod Timings

@@ -1,0 +1,3 @@
+pub mod Containing
+pub mod FieldNames
+pub mod PayloadWidths
