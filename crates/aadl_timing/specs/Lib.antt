@@ -3,3 +3,4 @@ pub mod Limits
 pub mod Located
 pub mod Naming
 pub mod Timings
+pub mod Untimed
