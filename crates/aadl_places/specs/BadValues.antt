@@ -1,5 +1,5 @@
 -- Which values of properties are refused (this project's own; the columns are those of the table of properties).
-use Rattle.std.specs.Prelude.{ℕ, Bool, true, false, ◌&&◌, ◌||◌, not, if◌then◌else◌, List, Option, Some, None, option_and_then}
+use Rattle.std.specs.Prelude.{Bool, false, ◌&&◌, ◌||◌, not, if◌then◌else◌, List, Option, Some, None, option_and_then}
 use Rattle.hw_text.specs.declared.code.Code.TheVariants as code
 use Rattle.hw_text.specs.declared.refusal.Refusal.{Refusal}
 use Rattle.aadl_tree.specs.declared.category.Category.TheVariants as category

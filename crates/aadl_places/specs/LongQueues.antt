@@ -1,5 +1,5 @@
 -- Which queues are longer than the limit (this project's own).
-use Rattle.std.specs.Prelude.{ℕ, ℤ, ◌-◌, ◌^◌, pos, codes, if◌then◌else◌, List, Option, Some, None, option_map, option_and_then}
+use Rattle.std.specs.Prelude.{ℕ, ℤ, ◌-◌, ◌^◌, pos, codes, if◌then◌else◌, List, Option, None, option_map, option_and_then}
 use Rattle.hw_text.specs.declared.code.Code.TheVariants as code
 use Rattle.hw_text.specs.declared.place.Place.{Place}
 use Rattle.hw_text.specs.declared.refusal.Refusal.{Refusal}

@@ -1,6 +1,6 @@
 -- Where the properties of the table have their places (after SAE AS5506, predeclared properties and the data model annex; this
 -- project's own: docs/formats/model.md).
-use Rattle.std.specs.Prelude.{ℕ, Bool, true, false, ◌&&◌, ◌||◌, not, List, Option, Some, None}
+use Rattle.std.specs.Prelude.{ℕ, Bool, true, false, ◌&&◌, ◌||◌, Option, Some, None}
 use Rattle.std.specs.List.{list_any}
 use Rattle.aadl_tree.specs.declared.category.Category.TheVariants as category
 use Rattle.aadl_tree.specs.declared.feature.Direction.{Direction}

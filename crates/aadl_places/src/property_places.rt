@@ -37,7 +37,7 @@ fn is_place_among(tables: &Tables<'_>, property: Property, sites: &[Option<Eleme
     false
 }
 
-fn leads_to_place(tables: &Tables<'_>, property: Property, site: Option<Element>) -> bool
+pub fn leads_to_place(tables: &Tables<'_>, property: Property, site: Option<Element>) -> bool
     ensures { result ≡ leads_to_place tables.now property site }
 {
     match site {

@@ -1,1 +1,6 @@
+pub mod Alone
+pub mod Behind
+pub mod Bounded
 pub mod OneMore
+pub mod PlacesOrder
+pub mod Quiet

@@ -35,7 +35,7 @@ impl<'a> Instance<'a> {
     }
 
     /// The component of a subcomponent, to which these steps lead.
-    fn component_in(&self, row: usize, steps: Rows<Step<'a>>) -> Option<Component<'a>>
+    pub fn component_in(&self, row: usize, steps: Rows<Step<'a>>) -> Option<Component<'a>>
         ensures { result ≡ component_in self.now.tables.now self.now.resolved.now row steps.entry }
     {
         let subcomponent = self.part_at(row)?;

@@ -31,7 +31,8 @@ impl<'a> Instance<'a> {
         }
     }
 
-    fn thread_row(&self, row: usize) -> Option<usize>
+    /// The row of the thread of a process.
+    pub fn thread_row(&self, row: usize) -> Option<usize>
         ensures { result ≡ thread_row self.now.tables.now self.now.resolved.now row }
     {
         if self.part_at(row)?.category != Category::Process {

@@ -3,9 +3,11 @@
 #![tactic(auto)]
 
 mod components;
+mod conditions;
 mod domains;
 mod elements;
 mod graphs;
+mod instances;
 mod models;
 mod tables;
 

@@ -1,8 +1,10 @@
 //! The questions over models, and those over graphs.
 
 use crate::components::tell_counting;
+use crate::conditions::tell_conditions;
 use crate::domains::tell_domains;
 use crate::graphs::tell_first_on_loop;
+use crate::instances::tell_instance;
 use crate::tables::tell_tables;
 use aadl_names::{References, Resolved, Scope, declared};
 use aadl_parse::parse;
@@ -33,7 +35,7 @@ impl Answerer for Models {
                 tell_first_on_loop(alloc, question.whole(alloc)?.rows(), out)?;
                 Ok(true)
             }
-            b"tables" | b"counts" | b"domains" => {
+            b"tables" | b"counts" | b"domains" | b"instance" | b"conditions" => {
                 of_model(alloc, context, question, out)?;
                 Ok(true)
             }
@@ -92,6 +94,8 @@ fn of_package(
         b"tables" => Ok(tell_tables(alloc, &scope, out)?),
         b"counts" => tell_counting(alloc, &scope, words.rows(), out),
         b"domains" => Ok(tell_domains(alloc, &scope, out)?),
+        b"instance" => Ok(tell_instance(alloc, &scope, out)?),
+        b"conditions" => Ok(tell_conditions(alloc, model, &scope, out)?),
         _ => Err(Trouble::BadLine),
     }
 }
