@@ -4,3 +4,4 @@ pub mod Bounded
 pub mod OneMore
 pub mod PlacesOrder
 pub mod Quiet
+pub mod Deep

@@ -5,3 +5,4 @@ pub mod Located
 pub mod Naming
 pub mod Timings
 pub mod Untimed
+pub mod Depths

@@ -3,6 +3,8 @@
 
 mod bounds;
 mod clashes;
+mod depth;
+mod firsts;
 mod frame;
 mod instance;
 mod leading;

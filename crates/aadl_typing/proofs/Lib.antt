@@ -1,1 +1,9 @@
+pub mod Beginning
+pub mod Chains
+pub mod Flawing
 pub mod LoopTold
+pub mod Marking
+pub mod Passing
+pub mod Stepping
+pub mod UseTold
+pub mod Walking

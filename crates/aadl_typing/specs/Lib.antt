@@ -1,3 +1,10 @@
 pub mod Containing
+pub mod DataGraph
+pub mod Differing
 pub mod FieldNames
+pub mod Flaws
+pub mod Marked
+pub mod Marks
 pub mod PayloadWidths
+pub mod Unlaid
+pub mod Walks

@@ -3,13 +3,13 @@
 ghost use Rattle.std.specs.Prelude.{◌≡◌, IfOk};
 ghost use Rattle.aadl_names.specs.declared.parts.PartRow.{PartRow as PartRowValue};
 ghost use Rattle.aadl_tree.specs.declared.feature.Feature.{Feature as FeatureValue};
-ghost use Rattle.aadl_typing.specs.PayloadWidths.{class_place, class_offence, port_offence, IsFirstWide};
+ghost use Rattle.aadl_typing.specs.PayloadWidths.{class_offence, port_offence, IsFirstWide};
 
-use crate::refusals::too_many_scalars;
+use crate::refusals::{place_of, too_many_scalars};
 use aadl_names::{PartRow, Scope, Test, first_offence};
 use aadl_tree::{Category, Class, Feature, PortKind};
 use aadl_types::{Extents, Shapes};
-use hw_text::{NoMemory, Place, Refusal};
+use hw_text::{NoMemory, Refusal};
 use hw_types::Extent;
 use std::alloc::Global;
 
@@ -56,16 +56,6 @@ impl<'a, 'b> Test<PartRow<'b, Feature>> for PayloadWidth<'a> {
                 Ok(offence)
             }
         }
-    }
-}
-
-/// Where a classifier begins.
-fn place_of(class: &Class) -> Place
-    ensures { result ≡ class_place class.now }
-{
-    match class {
-        Class::Base(place, _) => *place,
-        Class::Model(own) => own.place,
     }
 }
 

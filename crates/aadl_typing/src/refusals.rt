@@ -2,10 +2,10 @@
 
 ghost use Rattle.std.specs.Prelude.{◌≡◌, IfOk};
 ghost use Rattle.aadl_names.specs.Offences.{named};
-ghost use Rattle.aadl_typing.specs.PayloadWidths.{too_many_scalars};
+ghost use Rattle.aadl_typing.specs.PayloadWidths.{class_place, too_many_scalars};
 
 use aadl_names::named;
-use aadl_tree::Named;
+use aadl_tree::{Class, Named};
 use hw_text::{Code, NoMemory, Place, Refusal, TextBuf};
 use std::alloc::Global;
 
@@ -34,4 +34,14 @@ pub fn too_many_scalars(alloc: Global, place: Place, count: u64) -> Result<Refus
         high: SCALARS_ALLOWED,
         length: 0,
     })
+}
+
+/// Where a classifier begins.
+pub fn place_of(class: &Class) -> Place
+    ensures { result ≡ class_place class.now }
+{
+    match class {
+        Class::Base(place, _) => *place,
+        Class::Model(own) => own.place,
+    }
 }

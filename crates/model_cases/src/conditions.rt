@@ -9,7 +9,9 @@ use aadl_structure::{
 };
 use aadl_timing::Instance;
 use aadl_tree::Package;
-use aadl_typing::{first_c_word, first_containing_itself, first_wide_payload};
+use aadl_typing::{
+    first_c_word, first_containing_itself, first_type_difference, first_wide_payload,
+};
 use case_files::tell_line;
 use hw_text::{NoMemory, Refusal, TextBuf};
 use std::alloc::Global;
@@ -22,12 +24,15 @@ pub fn tell_conditions(
     out: &mut TextBuf,
 ) -> Result<(), NoMemory> {
     let before = out.rows().len();
+    let root = roots(alloc, scope.tables, scope.resolved)?
+        .rows()
+        .first()
+        .copied();
     tell_names(alloc, model, scope, out)?;
     tell_structure(alloc, model, scope, out)?;
-    if let Some(&root) = roots(alloc, scope.tables, scope.resolved)?.rows().first() {
-        tell_instance(alloc, scope, root, out)?;
-    }
-    tell_limits(alloc, scope, out)?;
+    tell_timing(alloc, scope, root, out)?;
+    tell(alloc, first_c_word(alloc, scope)?, out)?;
+    tell_limits(alloc, scope, root, out)?;
     if out.rows().len() == before {
         tell_line(out, b"each is met")?;
     }
@@ -53,34 +58,63 @@ fn tell_structure(
 ) -> Result<(), NoMemory> {
     tell(alloc, first_wrong_parent(alloc, scope)?, out)?;
     tell(alloc, first_kind_difference(alloc, scope)?, out)?;
+    tell(alloc, first_type_difference(alloc, scope)?, out)?;
     tell(alloc, first_fan_in(alloc, scope)?, out)?;
     tell(alloc, first_bad_property(alloc, scope)?, out)?;
     tell(alloc, first_containing_itself(alloc, model, scope)?, out)?;
-    tell(alloc, first_wrong_root(alloc, scope)?, out)?;
-    tell(alloc, first_c_word(alloc, scope)?, out)
+    tell(alloc, first_wrong_root(alloc, scope)?, out)
 }
 
-/// Those of the instance that begins with an implementation.
-fn tell_instance(
+/// Those of the threads and the names of the instance that begins with an implementation.
+fn tell_timing(
     alloc: Global,
     scope: &Scope<'_>,
-    root: usize,
+    root: Option<usize>,
     out: &mut TextBuf,
 ) -> Result<(), NoMemory> {
-    let instance = Instance {
-        tables: scope.tables,
-        resolved: scope.resolved,
+    let Some(root) = root else {
+        return Ok(());
     };
+    let instance = instance_of(scope);
     tell(alloc, instance.first_untimed(alloc, root)?, out)?;
-    tell(alloc, instance.first_clash(alloc, root)?, out)?;
-    tell(alloc, instance.over(alloc, Sought::Domain, root)?, out)?;
-    tell(alloc, instance.over(alloc, Sought::Processor, root)?, out)
+    tell(alloc, instance.first_clash(alloc, root)?, out)
 }
 
-fn tell_limits(alloc: Global, scope: &Scope<'_>, out: &mut TextBuf) -> Result<(), NoMemory> {
+fn tell_limits(
+    alloc: Global,
+    scope: &Scope<'_>,
+    root: Option<usize>,
+    out: &mut TextBuf,
+) -> Result<(), NoMemory> {
+    tell_over(alloc, scope, root, Sought::Domain, out)?;
     tell(alloc, first_wide(alloc, scope)?, out)?;
     tell(alloc, first_long_queue(alloc, scope)?, out)?;
-    tell(alloc, first_wide_payload(alloc, scope)?, out)
+    tell(alloc, first_wide_payload(alloc, scope)?, out)?;
+    tell_over(alloc, scope, root, Sought::Processor, out)?;
+    match root {
+        Some(root) => tell(alloc, instance_of(scope).first_deep(alloc, root)?, out),
+        None => Ok(()),
+    }
+}
+
+fn tell_over(
+    alloc: Global,
+    scope: &Scope<'_>,
+    root: Option<usize>,
+    sought: Sought,
+    out: &mut TextBuf,
+) -> Result<(), NoMemory> {
+    match root {
+        Some(root) => tell(alloc, instance_of(scope).over(alloc, sought, root)?, out),
+        None => Ok(()),
+    }
+}
+
+fn instance_of<'a>(scope: &Scope<'a>) -> Instance<'a> {
+    Instance {
+        tables: scope.tables,
+        resolved: scope.resolved,
+    }
 }
 
 fn tell(alloc: Global, refusal: Option<Refusal>, out: &mut TextBuf) -> Result<(), NoMemory> {
