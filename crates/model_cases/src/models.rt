@@ -1,5 +1,8 @@
 //! The questions over models, and those over graphs.
 
+ghost use Rattle.std.specs.Prelude.{◌≡◌};
+ghost use Rattle.aadl_links.specs.Wires.{feature_keys, subcomponent_keys};
+
 use crate::components::tell_counting;
 use crate::conditions::tell_conditions;
 use crate::domains::tell_domains;
@@ -90,12 +93,27 @@ fn of_package(
         references: &references,
         resolved: &resolved,
     };
+    tell_word(alloc, model, &scope, word, words, out)
+}
+
+/// What a word asks of the tables of a model.
+fn tell_word(
+    alloc: Global,
+    model: &Package,
+    scope: &Scope<'_>,
+    word: &[u8],
+    words: &WordList,
+    out: &mut TextBuf,
+) -> Result<(), Trouble>
+    requires subcomponents { scope.now.references.now.subcomponents ≡ subcomponent_keys scope.now.tables.now }
+    requires features { scope.now.references.now.features ≡ feature_keys scope.now.tables.now }
+{
     match word {
-        b"tables" => Ok(tell_tables(alloc, &scope, out)?),
-        b"counts" => tell_counting(alloc, &scope, words.rows(), out),
-        b"domains" => Ok(tell_domains(alloc, &scope, out)?),
-        b"instance" => Ok(tell_instance(alloc, &scope, out)?),
-        b"conditions" => Ok(tell_conditions(alloc, model, &scope, out)?),
+        b"tables" => Ok(tell_tables(alloc, scope, out)?),
+        b"counts" => tell_counting(alloc, scope, words.rows(), out),
+        b"domains" => Ok(tell_domains(alloc, scope, out)?),
+        b"instance" => Ok(tell_instance(alloc, scope, out)?),
+        b"conditions" => Ok(tell_conditions(alloc, model, scope, out)?),
         _ => Err(Trouble::BadLine),
     }
 }
