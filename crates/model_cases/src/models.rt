@@ -9,7 +9,7 @@ use crate::domains::tell_domains;
 use crate::graphs::tell_first_on_loop;
 use crate::instances::tell_instance;
 use crate::tables::tell_tables;
-use aadl_names::{References, Resolved, Scope, declared};
+use aadl_names::{References, Resolved, Scope, Tables, declared};
 use aadl_parse::parse;
 use aadl_tree::Package;
 use case_files::{Answerer, Context, Question, Trouble};
@@ -86,34 +86,57 @@ fn of_package(
     out: &mut TextBuf,
 ) -> Result<(), Trouble> {
     let tables = declared(alloc, model)?;
-    let references = References::of(alloc, model, &tables)?;
-    let resolved = Resolved::of(alloc, &tables, &references)?;
-    let scope = Scope {
-        tables: &tables,
-        references: &references,
-        resolved: &resolved,
-    };
-    tell_word(alloc, model, &scope, word, words, out)
+    of_tables(alloc, model, &tables, word, words, out)
 }
 
-/// What a word asks of the tables of a model.
-fn tell_word(
+/// What a word asks of a model that has these tables.
+fn of_tables<'a>(
     alloc: Global,
     model: &Package,
-    scope: &Scope<'_>,
+    tables: &'a Tables<'_>,
+    word: &[u8],
+    words: &WordList,
+    out: &mut TextBuf,
+) -> Result<(), Trouble> {
+    let references = References::of(alloc, model, tables)?;
+    let resolved = Resolved::of(alloc, tables, &references)?;
+    of_names(
+        alloc,
+        model,
+        tables,
+        &references,
+        &resolved,
+        word,
+        words,
+        out,
+    )
+}
+
+/// What a word asks of a model that has these tables, names and meanings.
+fn of_names<'a>(
+    alloc: Global,
+    model: &Package,
+    tables: &'a Tables<'_>,
+    references: &'a References<'_>,
+    resolved: &'a Resolved,
     word: &[u8],
     words: &WordList,
     out: &mut TextBuf,
 ) -> Result<(), Trouble>
-    requires subcomponents { scope.now.references.now.subcomponents ≡ subcomponent_keys scope.now.tables.now }
-    requires features { scope.now.references.now.features ≡ feature_keys scope.now.tables.now }
+    requires subcomponents { references.now.subcomponents ≡ subcomponent_keys tables.now }
+    requires features { references.now.features ≡ feature_keys tables.now }
 {
+    let scope = Scope {
+        tables,
+        references,
+        resolved,
+    };
     match word {
-        b"tables" => Ok(tell_tables(alloc, scope, out)?),
-        b"counts" => tell_counting(alloc, scope, words.rows(), out),
-        b"domains" => Ok(tell_domains(alloc, scope, out)?),
-        b"instance" => Ok(tell_instance(alloc, scope, out)?),
-        b"conditions" => Ok(tell_conditions(alloc, model, scope, out)?),
+        b"tables" => Ok(tell_tables(alloc, &scope, out)?),
+        b"counts" => tell_counting(alloc, &scope, words.rows(), out),
+        b"domains" => Ok(tell_domains(alloc, &scope, out)?),
+        b"instance" => Ok(tell_instance(alloc, &scope, out)?),
+        b"conditions" => Ok(tell_conditions(alloc, model, &scope, out)?),
         _ => Err(Trouble::BadLine),
     }
 }
